@@ -1,0 +1,64 @@
+-- What a crash may leave.
+use Rattle.std.specs.Prelude.{◌≡◌, ◌≢◌, ◌⊎◌, ◌≤◌, ◌<◌, ◌+◌, ◌++◌, take, ℕ, List, [], ◌∷◌, length, slice_index, Option, Some, None}
+use Rattle.std.specs.FinMap.{FinMap, get}
+use Rattle.pg_disk.specs.declared.file_id.FileId.{FileId}
+use Rattle.pg_disk.specs.Files.{file_cmp, Files}
+use Rattle.pg_disk.specs.Account.{FileState, Account, account, IsHonest}
+
+-- the place is in one of the ranges
+abbrev pub IsIn : List (ℕ × ℕ) → ℕ → Type 0
+IsIn [] i = ⊥
+IsIn (r ∷ rs) i = ((r.0 ≤ i) × (i < r.0 + r.1)) ⊎ IsIn rs i
+
+-- what may be left of a file: a length between, and below the synced end each byte as read that was not written since
+pub record IsLeft (s : FileState) (bytes : List ℕ) : Type 0 where
+  pub no_shorter : s.synced ≤ length bytes
+  pub no_longer : length bytes ≤ s.greatest
+  pub as_read : (i : ℕ) → i < s.synced → (IsIn s.ranges i → ⊥) → slice_index bytes i ≡ slice_index s.bytes i
+
+-- the same of a file that may not be there
+abbrev pub IsLeftAt : Option FileState → Option (List ℕ) → Type 0
+IsLeftAt None None = Unit {0}
+IsLeftAt None (Some bytes) = ⊥
+IsLeftAt (Some s) None = ⊥
+IsLeftAt (Some s) (Some bytes) = IsLeft s bytes
+
+-- the files that a crash may leave
+abbrev pub IsImage : FinMap file_cmp FileState → Files → Type 0
+IsImage files image = (f : FileId) → IsLeftAt (get files f) (get image f)
+
+-- each other file is as a crash may leave it
+abbrev pub OthersLeft : FileId → FinMap file_cmp FileState → Files → Type 0
+OthersLeft file files image = (f : FileId) → f ≢ file → IsLeftAt (get files f) (get image f)
+
+-- a crash of a site that tells this may leave these files, with these bytes told
+pub record Leaves (tells : Option Account) (c : Files) (b : List ℕ) : Type 0 where
+  pub honest : IsHonest tells
+  pub image : IsImage (account tells).files c
+  pub told : b ≡ (account tells).told
+
+-- the same, where of one file something else may be left
+pub record LeavesAt (id : FileId) (P : Option (List ℕ) → Type 0) (tells : Option Account) (c : Files) (b : List ℕ) : Type 0 where
+  pub honest : IsHonest tells
+  pub others : OthersLeft id (account tells).files c
+  pub file : P (get c id)
+  pub told : b ≡ (account tells).told
+
+abbrev pub IsFileThere : FileId → FinMap file_cmp FileState → Type 0
+IsFileThere file files = (s : FileState) × (get files file ≡ Some s)
+
+-- it isn't there, or it is there and empty
+abbrev pub MayBeCreated : Option (List ℕ) → Type 0
+MayBeCreated left = (left ≡ None) ⊎ (left ≡ Some [])
+
+-- it isn't there, or as before
+abbrev pub MayBeRemoved : Option FileState → Option (List ℕ) → Type 0
+MayBeRemoved was left = (left ≡ None) ⊎ IsLeftAt was left
+
+-- the files as before, and a prefix of the piece told
+pub record LeavesPrefix (piece : List ℕ) (tells : Option Account) (c : Files) (b : List ℕ) : Type 0 where
+  pub honest : IsHonest tells
+  pub image : IsImage (account tells).files c
+  pub count : ℕ
+  pub within : count ≤ length piece
+  pub told : b ≡ (account tells).told ++ take count piece

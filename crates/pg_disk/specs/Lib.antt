@@ -1,0 +1,7 @@
+pub mod Account
+pub mod Calls
+pub mod Counts
+pub mod Files
+pub mod Image
+pub mod Moments
+pub mod Reads
