@@ -1,13 +1,13 @@
 -- What a quiet directory reads as is what a crash leaves of it.
-use Rattle.std.proofs.Common.{◌≡◌, ℕ, ◌≤◌, ◌<◌, Bool, true, false, cond, List, [], ◌∷◌, map, length, get_or, Option, Some, None, refl, sym, ◌∙◌, ap, subst, arith}
+use Rattle.std.proofs.Common.{◌≡◌, ℕ, Bool, true, false, cond, List, [], ◌∷◌, map, length, Option, Some, None, refl, sym, ◌∙◌, ap, subst, arith}
 use Rattle.std.specs.Option.{option_map}
 use Rattle.std.specs.Ordering.{eq_by_cmp}
-use Rattle.std.specs.FinMap.{FinMap, get, entries, from_entries, get-entries, get-from_entries, find, same_map}
+use Rattle.std.specs.FinMap.{FinMap, get, entries, get-entries, get-from_entries, find, same_map}
 use Rattle.std.proofs.lemmas.List.{ext_get_or}
 use Rattle.pg_disk.specs.declared.file_id.FileId.{FileId}
 use Rattle.pg_disk.specs.Files.{file_cmp, Files}
 use Rattle.pg_disk.specs.Account.{FileState, IsQuiet}
-use Rattle.pg_disk.specs.Image.{IsIn, IsLeft, IsLeftAt, IsImage}
+use Rattle.pg_disk.specs.Image.{IsIn, IsLeftAt, IsImage}
 use Rattle.pg_disk.specs.Reads.{reads}
 use Rattle.pg_disk.proofs.FileOrder.{files_total, files_exact}
 

@@ -1,7 +1,15 @@
 pub mod Account
 pub mod Calls
+pub mod Contents
 pub mod Counts
+pub mod Events
 pub mod Files
 pub mod Image
+pub mod MemSite
+pub mod MemSource
+pub mod MemoryState
 pub mod Moments
 pub mod Reads
+pub mod Recorded
+pub mod Replay
+pub mod ReplayLaws

@@ -1,5 +1,5 @@
 -- What the files read as, and what was read of a source.
-use Rattle.std.specs.Prelude.{◌≡◌, ◌++◌, ℕ, List, [], ◌∷◌, map, Option, Some}
+use Rattle.std.specs.Prelude.{◌≡◌, ◌++◌, ℕ, List, map, Option, Some}
 use Rattle.std.specs.FinMap.{FinMap, entries, from_entries}
 use Rattle.pg_disk.specs.Files.{file_cmp, Files}
 use Rattle.pg_disk.specs.Account.{FileState}

@@ -110,3 +110,15 @@ impl From<Fault> for SiteFault {
         SiteFault::Disk(fault)
     }
 }
+
+impl From<AllocError> for SiteFault {
+    ghost use Rattle.std.specs.Prelude.{◌≡◌};
+    ghost use Rattle.pg_disk.specs.declared.fault.Fault.TheVariants.{Memory as TheMemory};
+    ghost use Rattle.pg_disk.specs.declared.fault.SiteFault.TheVariants.{Disk as OfDisk};
+
+    ghost from_gives = { λ _ e. e ≡ OfDisk TheMemory };
+
+    fn from(_: AllocError) -> Self {
+        SiteFault::Disk(Fault::Memory)
+    }
+}

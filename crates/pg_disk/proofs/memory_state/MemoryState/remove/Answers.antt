@@ -1,0 +1,15 @@
+use Rattle.std.proofs.Common.{refl}
+use Rattle.pg_disk.specs.declared.call_record.Event.TheVariants as event
+use Rattle.pg_disk.specs.Replay.{start, replay, after_remove}
+use Rattle.pg_disk.proofs.ContentLemmas.{contents_by, told_by, told-removed}
+use Rattle.pg_disk.proofs.memory_state.MemoryState.remove.Goals as goal
+
+pub invariant_of-self-2 : goal.invariant_of-self-2
+invariant_of-self-2 c =
+    let s = c.args.self.now in
+    let change = after_remove c.args.file c.args.done in
+    let e = event.Remove c.args.file c.args.done in
+    record {
+      contents_of_history = contents_by s.contents c.remove_in.new.contents change s.history.events.items _ _ e c.reserve.ensures.same c.add.ensures (λ a. refl) c.remove_in.ensures s.contents_of_history;
+      told_of_history = told_by s.told.items change s.history.events.items _ _ e c.reserve.ensures.same c.add.ensures (λ a. refl) (told-removed c.args.file c.args.done (replay start s.history.events.items) s.told_of_history);
+    }
