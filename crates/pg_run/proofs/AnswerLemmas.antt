@@ -1,0 +1,254 @@
+-- One line: what it does, what is told of its reply, and what a crash within it leaves.
+use Rattle.std.proofs.Common.{◌≡◌, ◌⊎◌, inl, inr, ⊎_elim, ℕ, ◌+◌, ◌≤◌, ◌<◌, List, [], ◌∷◌, ◌++◌, length, take, drop, Bool, true, Option, Result, Ok, Err, refl, sym, ◌∙◌, ap, subst, arith, length-drop, take-append-drop}
+use Rattle.std.proofs.lemmas.List.{append-nil, take_all}
+use Rattle.std.specs.Prelude.{IsErr, IsErrOf}
+use Rattle.std.specs.FinMap.{get}
+use Rattle.pg_disk.specs.declared.fault.Fault.{Fault}
+use Rattle.pg_disk.specs.declared.fault.Fault.TheVariants.{Memory}
+use Rattle.pg_disk.specs.declared.fault.SiteFault.{SiteFault}
+use Rattle.pg_disk.specs.declared.fault.SiteFault.TheVariants.{Disk, Sink}
+use Rattle.pg_disk.specs.Account.{Account, account, IsHonest}
+use Rattle.pg_disk.specs.Calls.{Changes, Emits}
+use Rattle.pg_disk.specs.Files.{Files}
+use Rattle.pg_disk.specs.Image.{Leaves, LeavesPrefix}
+use Rattle.pg_disk.specs.Moments.{Elapses, Within}
+use Rattle.pg_disk.proofs.Runs.{started, goes_on, weaker, then_run}
+use Rattle.pg_run.specs.declared.engine.Engine.{Engine}
+use Rattle.pg_run.specs.declared.msg.Command.{Command}
+use Rattle.pg_run.specs.declared.msg.Reply.{Reply}
+use Rattle.pg_run.specs.Answered.{Answers}
+use Rattle.pg_run.specs.Broker.{Broker, Step, last_state}
+use Rattle.pg_run.specs.Commands.{ReadsAs}
+use Rattle.pg_run.specs.Denotation.{Denotes}
+use Rattle.pg_run.specs.Executed.{state_of, Owns, LeavesEither, StandsAt, Executes}
+use Rattle.pg_run.specs.Replies.{reply_line, reply_bytes}
+use Rattle.pg_run.specs.Served.{Tells, LeavesBetween, Serves, ServesAll}
+use Rattle.pg_run.proofs.Executing.{owned_denote}
+use Rattle.pg_run.proofs.RunLemmas.{line_some, tells_all}
+
+-- of one reply nothing is told yet
+abbrev none_told : (reply : Reply) → Tells (reply ∷ []) 0 []
+none_told reply = record { part = []; within = omega arith; bytes = refl; begun = (reply_line reply, line_some reply, refl) }
+
+one_bytes : (reply : Reply) → reply_bytes (reply ∷ []) ≡ reply_line reply
+one_bytes reply = append-nil (reply_line reply)
+
+all_told : (reply : Reply) → Tells (reply ∷ []) 1 (reply_line reply)
+all_told reply = subst (λ (bytes : List ℕ). Tells (reply ∷ []) 1 bytes) (one_bytes reply) (tells_all (reply ∷ []))
+
+-- how much of a reply's line is told: a part that isn't the whole, or the whole
+pub record ToldOf (reply : Reply) (bytes : List ℕ) : Type 0 where
+  pub n : ℕ
+  pub few : (n ≡ 0) ⊎ (n ≡ 1)
+  pub told : Tells (reply ∷ []) n bytes
+
+pub told_of : (reply : Reply) (count : ℕ) → count ≤ length (reply_line reply) → ToldOf reply (take count (reply_line reply))
+told_of reply count within = elim (less_or_all count (length (reply_line reply)) within) [
+  | inl less ↦ record {
+    n = 0;
+    few = inl refl;
+    told = record {
+      part = take count (reply_line reply);
+      within = omega arith;
+      bytes = refl;
+      begun = (drop count (reply_line reply), (λ e. absurd (omega (arith, less, length-drop count (reply_line reply), ap length e))), sym (take-append-drop count (reply_line reply)));
+    };
+  }
+  | inr all ↦ record { n = 1; few = inr refl; told = subst (λ (bytes : List ℕ). Tells (reply ∷ []) 1 bytes) (sym (take_all count (reply_line reply) (omega (arith, all)))) (all_told reply) }
+]
+  where
+    less_or_all : (a b : ℕ) → a ≤ b → (a < b) ⊎ (a ≡ b)
+    less_or_all a b le = grind arith
+
+module _ (first : Broker) (item : Option Command) (reply : Reply) (next : Broker) (entry : Option Account) where
+  -- before anything of the reply is told
+  pub either_between : (image : Files) (told : List ℕ) → LeavesEither first.durable next.durable entry image told → LeavesBetween first (reply ∷ []) (next ∷ []) entry image told
+  either_between image told left = elim left.denoted [
+    | inl before ↦ between 0 (inl refl) (omega arith) before
+    | inr after ↦ between 1 (inr refl) (omega arith) after
+  ]
+    where
+      between : (k : ℕ) → (k ≡ 0) ⊎ (k ≡ 0 + 1) → k ≤ 1 → Denotes (λ file. get image file) (last_state first (take k (next ∷ []))).durable → LeavesBetween first (reply ∷ []) (next ∷ []) entry image told
+      between k close within denoted = record {
+        honest = left.honest;
+        between = record { n = 0; k = k; close = close; within = within; more = []; bytes = left.nothing ∙ sym (append-nil (account entry).told); tells = none_told reply; denoted = denoted };
+      }
+
+  -- while the reply is told
+  pub prefix_between : (mid : Option Account) (engine : Engine) → IsHonest entry → (account mid).told ≡ (account entry).told → StandsAt engine next mid → (image : Files) (told : List ℕ) → LeavesPrefix (reply_line reply) mid image told
+      → LeavesBetween first (reply ∷ []) (next ∷ []) entry image told
+  prefix_between mid engine honest same stands image told left =
+      let part = told_of reply left.count left.within in
+      record {
+        honest = honest;
+        between = record {
+          n = part.n;
+          k = 1;
+          close = ⊎_elim (λ none. inr (omega (arith, none))) (λ one. inl (sym one)) part.few;
+          within = omega arith;
+          more = take left.count (reply_line reply);
+          bytes = left.told ∙ ap (λ (bytes : List ℕ). bytes ++ take left.count (reply_line reply)) same;
+          tells = part.told;
+          denoted = subst (λ (s : Broker). Denotes (λ file. get image file) s.durable) stands.stands (owned_denote engine (account mid).files image stands.owns left.image);
+        };
+      }
+
+-- of no reply nothing is told
+abbrev nothing_told : Tells [] 0 []
+nothing_told = record { part = []; within = omega arith; bytes = refl; begun = refl }
+
+module _ {D : Type 0} (moment : D → ℕ) (left_since : D → ℕ → Files → List ℕ → Type 0) (tells : D → Option Account) (old : D) (first : Broker) (line : List ℕ) (honest : IsHonest (tells old)) where
+  -- the line wasn't begun
+  pub unanswered : (engine : Engine) → ((c : Files) (b : List ℕ) → left_since old (moment old) c b → Leaves (tells old) c b) → state_of engine ≡ first → Owns engine (account (tells old)).files
+      → (serves : Serves LeavesBetween moment left_since tells first (line ∷ []) old old) × (serves.told.part ≡ [])
+  unanswered engine law stands owns = let serves : Serves LeavesBetween moment left_since tells first (line ∷ []) old old = record {
+    items = [];
+    replies = [];
+    states = [];
+    read = tt;
+    run = tt;
+    moments = started moment left_since old _ (λ c b left.
+        let now = law c b left in
+        record {
+          honest = now.honest;
+          between = record {
+            n = 0;
+            k = 0;
+            close = inl refl;
+            within = omega arith;
+            more = [];
+            bytes = now.told ∙ sym (append-nil (account (tells old)).told);
+            tells = nothing_told;
+            denoted = subst (λ (s : Broker). Denotes (λ file. get c file) s.durable) stands (owned_denote engine (account (tells old)).files c owns now.image);
+          };
+        });
+    kept = honest;
+    n = 0;
+    last = inl refl;
+    more = [];
+    bytes = sym (append-nil (account (tells old)).told);
+    told = nothing_told;
+  } in (serves, refl)
+
+  module _ (item : Option Command) (reads : ReadsAs line item) (reply : Reply) (next : Broker) (step : Step first item reply next) (mid : D)
+      (moments : Within moment left_since old mid (LeavesEither first.durable next.durable (tells old))) (told : (account (tells mid)).told ≡ (account (tells old)).told) where
+    -- the line was interrupted, and nothing is told of its reply
+    pub interrupted : IsHonest (tells mid) → (serves : Serves LeavesBetween moment left_since tells first (line ∷ []) old mid) × (serves.told.part ≡ [])
+    interrupted kept = let serves : Serves LeavesBetween moment left_since tells first (line ∷ []) old mid = record {
+      items = item ∷ [];
+      replies = reply ∷ [];
+      states = next ∷ [];
+      read = (reads, tt);
+      run = (step, tt);
+      moments = weaker moment left_since old mid _ _ moments (either_between first item reply next (tells old));
+      kept = kept;
+      n = 0;
+      last = inr refl;
+      more = [];
+      bytes = told ∙ sym (append-nil (account (tells old)).told);
+      told = none_told reply;
+    } in (serves, refl)
+
+    module _ (engine : Engine) (stands : StandsAt engine next (tells mid)) (new : D) (telling : Within moment left_since mid new (LeavesPrefix (reply_line reply) (tells mid))) where
+      all_moments : Within moment left_since old new (LeavesBetween first (reply ∷ []) (next ∷ []) (tells old))
+      all_moments = then_run moment left_since old mid new _ _ (weaker moment left_since old mid _ _ moments (either_between first item reply next (tells old))) telling
+          (prefix_between first item reply next (tells old) (tells mid) engine honest told stands)
+
+      -- its reply was told in part
+      pub half_told : (ok : Bool) → Changes (tells mid) (tells new) (Emits (reply_line reply) ok) → Serves LeavesBetween moment left_since tells first (line ∷ []) old new
+      half_told ok changes =
+          let emits = changes.step stands.kept in
+          let part = told_of reply emits.count emits.within in
+          record {
+            items = item ∷ [];
+            replies = reply ∷ [];
+            states = next ∷ [];
+            read = (reads, tt);
+            run = (step, tt);
+            moments = all_moments;
+            kept = changes.kept stands.kept;
+            n = part.n;
+            last = ⊎_elim (λ none. inr (omega (arith, none))) (λ one. inl (sym one)) part.few;
+            more = take emits.count (reply_line reply);
+            bytes = emits.told ∙ ap (λ (bytes : List ℕ). bytes ++ take emits.count (reply_line reply)) told;
+            told = part.told;
+          }
+
+      -- its reply was told
+      pub answered : Changes (tells mid) (tells new) (Emits (reply_line reply) true) → ServesAll moment left_since tells first (line ∷ []) old new engine
+      answered changes =
+          let emits = changes.step stands.kept in
+          record {
+            items = item ∷ [];
+            replies = reply ∷ [];
+            states = next ∷ [];
+            read = (reads, tt);
+            all = refl;
+            run = (step, tt);
+            moments = all_moments;
+            told = emits.told ∙ (ap (λ (bytes : List ℕ). bytes ++ take emits.count (reply_line reply)) told
+                ∙ ap (λ (bytes : List ℕ). (account (tells old)).told ++ bytes) (take_all emits.count (reply_line reply) (omega (arith, emits.all refl)) ∙ sym (one_bytes reply)));
+            stands = record {
+              kept = changes.kept stands.kept;
+              stands = stands.stands;
+              owns = subst (λ files. Owns engine files) (sym emits.files) stands.owns;
+            };
+          }
+
+  -- an Err owes what was served so far
+  pub answers_err : (new : D) (result : Result Engine SiteFault) → IsErr result → (serves : Serves LeavesBetween moment left_since tells first (line ∷ []) old new) → serves.told.part ≡ [] → Answers moment left_since tells first line old new result
+  answers_err new (Ok engine) failed serves quiet = cc
+  answers_err new (Err (Disk fault)) failed serves quiet = (serves, quiet)
+  answers_err new (Err Sink) failed serves quiet = (serves, tt)
+
+  -- where the output failed a part of the reply may be told
+  pub answers_sink : (new : D) (result : Result Engine SiteFault) → IsErrOf result Sink → Serves LeavesBetween moment left_since tells first (line ∷ []) old new → Answers moment left_since tells first line old new result
+  answers_sink new (Ok engine) failed serves = cc
+  answers_sink new (Err (Disk fault)) failed serves = cc
+  answers_sink new (Err Sink) failed serves = (serves, tt)
+
+  -- what an execution that gave up leaves
+  pub gave_up : (engine : Engine) → ((c : Files) (b : List ℕ) → left_since old (moment old) c b → Leaves (tells old) c b) → state_of engine ≡ first → Owns engine (account (tells old)).files
+      → (mid : D) (result : Result (Engine × Reply) Fault) → (IsErrOf result Memory × (mid ≡ old)) ⊎ ((item : Option Command) × ReadsAs line item × Executes moment left_since tells first item old mid result)
+      → (serves : Serves LeavesBetween moment left_since tells first (line ∷ []) old mid) × (serves.told.part ≡ [])
+  gave_up engine law stands owns mid result outcome = elim outcome [
+    | inl none ↦ subst (λ d. (serves : Serves LeavesBetween moment left_since tells first (line ∷ []) old d) × (serves.told.part ≡ [])) (sym none.1) (unanswered engine law stands owns)
+    | inr some ↦ interrupted some.0 some.1 some.2.reply some.2.next some.2.step mid some.2.moments some.2.told some.2.kept
+  ]
+
+  no_err : (result : Result (Engine × Reply) Fault) (done : Engine × Reply) → result ≡ Ok done → IsErrOf result Memory → ⊥
+  no_err result done ok err = cc
+
+  abbrev pub done_of : Engine → Reply → Result (Engine × Reply) Fault
+  done_of engine reply = Ok (engine, reply)
+
+  -- what was executed, and the reply that goes with it
+  pub record Executed (mid : D) (engine : Engine) (reply : Reply) : Type 0 where
+    pub item : Option Command
+    pub reads : ReadsAs line item
+    pub next : Broker
+    pub step : Step first item reply next
+    pub moments : Within moment left_since old mid (LeavesEither first.durable next.durable (tells old))
+    pub told : (account (tells mid)).told ≡ (account (tells old)).told
+    pub stands : StandsAt engine next (tells mid)
+
+  pub executed : (mid : D) (engine : Engine) (reply : Reply) → (IsErrOf (done_of engine reply) Memory × (mid ≡ old)) ⊎ ((item : Option Command) × ReadsAs line item × Executes moment left_since tells first item old mid (Ok (engine, reply)))
+      → Executed mid engine reply
+  executed mid engine reply outcome = elim outcome [
+    | inl none ↦ absurd (no_err _ (engine, reply) refl none.0)
+    | inr some ↦ record {
+      item = some.0;
+      reads = some.1;
+      next = some.2.next;
+      step = subst (λ r. Step first some.0 r some.2.next) (sym some.2.ok.0) some.2.step;
+      moments = some.2.moments;
+      told = some.2.told;
+      stands = some.2.ok.1;
+    }
+  ]
+
+-- the moments of one emit
+pub told_within : {D : Type 0} (moment : D → ℕ) (left_since : D → ℕ → Files → List ℕ → Type 0) (tells : D → Option Account) (old : D) → ((c : Files) (b : List ℕ) → left_since old (moment old) c b → Leaves (tells old) c b) → (piece : List ℕ) (new : D)
+    → Elapses (moment old) (moment new) (left_since old) (left_since new) (LeavesPrefix piece (tells old)) → Within moment left_since old new (LeavesPrefix piece (tells old))
+told_within moment left_since tells old law piece new time = goes_on moment left_since old old new _ _
+    (started moment left_since old _ (λ c b left. let now = law c b left in record { honest = now.honest; image = now.image; count = 0; within = omega arith; told = now.told ∙ sym (append-nil (account (tells old)).told) })) time (λ c b left. left)

@@ -1,0 +1,154 @@
+-- What the engine's own files denote, and a command that appends one batch to them.
+use Rattle.std.proofs.Common.{◌≡◌, ◌≢◌, inl, inr, ⊎_elim, ℕ, List, [], ◌∷◌, ◌++◌, Option, Some, None, Result, Ok, Err, refl, sym, ◌∙◌, ap, subst}
+use Rattle.std.specs.Prelude.{IfOk, IsErr}
+use Rattle.std.specs.FinMap.{FinMap, get}
+use Rattle.pg_disk.specs.declared.fault.Fault.{Fault}
+use Rattle.pg_disk.specs.declared.file_id.FileId.{FileId}
+use Rattle.pg_disk.specs.Account.{FileState, Account, account, IsHonest}
+use Rattle.pg_disk.specs.Calls.{Changes, ChangesFile}
+use Rattle.pg_disk.specs.Files.{file_cmp, Files}
+use Rattle.pg_disk.specs.Image.{IsLeftAt, IsImage, Leaves, LeavesAt}
+use Rattle.pg_disk.specs.Moments.{Within}
+use Rattle.pg_disk.proofs.Runs.{started, weaker}
+use Rattle.pg_gate.specs.Gated.{StandsFor, HasBatches, HasOldOrNew, file_of}
+use Rattle.pg_gate.proofs.Unique.{stands_left}
+use Rattle.pg_run.specs.declared.engine.Engine.{Engine}
+use Rattle.pg_run.specs.declared.msg.Command.{Command}
+use Rattle.pg_run.specs.declared.msg.Refusal.{Refusal}
+use Rattle.pg_run.specs.declared.msg.Reply.{Reply}
+use Rattle.pg_run.specs.declared.msg.Reply.TheVariants.{No}
+use Rattle.pg_run.specs.declared.records.Entry.{Entry}
+use Rattle.pg_run.specs.Broker.{Durable, Broker, fresh, Step}
+use Rattle.pg_run.specs.Denotation.{journal, HasLog, Denotes}
+use Rattle.pg_run.specs.Entries.{SpellsBatch}
+use Rattle.pg_run.specs.Executed.{state_of, Owns, LeavesEither, Executes}
+use Rattle.pg_run.specs.Fold.{fold_entries}
+use Rattle.pg_run.proofs.JournalLemmas.{spelled_push, folded_push}
+
+-- of a file that isn't there a crash leaves none
+pub none_left : (s : Option FileState) (left : Option (List ℕ)) → s ≡ None → IsLeftAt s left → left ≡ None
+none_left None None none is = refl
+none_left None (Some bytes) none is = absurd is
+none_left (Some s) left none is = cc
+
+-- an answer that isn't Ok owes nothing of it
+not_ok : {T E : Type 0} (P : T → Type 0) (result : Result T E) → IsErr result → IfOk result P
+not_ok P (Ok x) failed = cc
+not_ok P (Err e) failed = tt
+
+pub has_log : (batches : List (List ℕ)) (left : Option (List ℕ)) → HasBatches batches left → HasLog left batches
+has_log batches None has = absurd has
+has_log batches (Some bytes) has = has
+
+-- whatever a crash leaves of the engine's files denotes its state
+pub owned_denote : (engine : Engine) (files : FinMap file_cmp FileState) (image : Files) → Owns engine files → IsImage files image → Denotes (λ file. get image file) (state_of engine).durable
+owned_denote engine files image owns is = record {
+  batches = owns.batches;
+  entries = owns.entries;
+  alone = λ file other. none_left (get files file) (get image file) (owns.alone file other) (is file);
+  log = has_log owns.batches (get image journal) (stands_left engine.journal owns.batches (get files journal) (get image journal) owns.stands (is journal));
+  spelled = owns.spelled;
+  folded = owns.folded;
+}
+
+module _ {D : Type 0} (moment : D → ℕ) (left_since : D → ℕ → Files → List ℕ → Type 0) (tells : D → Option Account) (old : D) (law : (c : Files) (b : List ℕ) → left_since old (moment old) c b → Leaves (tells old) c b)
+    (engine : Engine) (owns : Owns engine (account (tells old)).files) where
+  -- before anything is done
+  pub nothing_left : (next : Durable) → Within moment left_since old old (LeavesEither (state_of engine).durable next (tells old))
+  nothing_left next = started moment left_since old _ (λ c b left.
+      let now = law c b left in
+      record { honest = now.honest; nothing = now.told; denoted = inl (owned_denote engine (account (tells old)).files c owns now.image) })
+
+  -- a refusal leaves all as it was
+  pub refused : IsHonest (tells old) → (item : Option Command) (refusal : Refusal) → Step (state_of engine) item (No refusal) (state_of engine) → Executes moment left_since tells (state_of engine) item old old (Ok (engine, No refusal))
+  refused honest item refusal step = record {
+    reply = No refusal;
+    next = state_of engine;
+    step = step;
+    moments = nothing_left (state_of engine).durable;
+    kept = honest;
+    told = refl;
+    ok = (refl, record { kept = honest; stands = refl; owns = owns });
+  }
+
+  -- so does a command that gives up before it writes
+  pub given_up : IsHonest (tells old) → (item : Option Command) (reply : Reply) (next : Broker) → Step (state_of engine) item reply next → (result : Result (Engine × Reply) Fault) → IsErr result → Executes moment left_since tells (state_of engine) item old old result
+  given_up honest item reply next step result failed = record { reply = reply; next = next; step = step; moments = nothing_left next.durable; kept = honest; told = refl; ok = not_ok _ result failed }
+
+  -- a batch that is appended
+  module _ (payload : List ℕ) (more : List Entry) (next : Broker) (spells : SpellsBatch payload more) (folds : fold_entries (state_of engine).durable more ≡ Some next.durable) where
+    abbrev Either : FileId → Files → List ℕ → Type 0
+    Either id = LeavesAt id (λ left. (batches : List (List ℕ)) → StandsFor engine.journal batches (get (account (tells old)).files id) → HasOldOrNew batches payload left) (tells old)
+
+    either_left : (c : Files) (b : List ℕ) → Either journal c b → LeavesEither (state_of engine).durable next.durable (tells old) c b
+    either_left c b left = record {
+      honest = left.honest;
+      nothing = left.told;
+      denoted = ⊎_elim
+          (λ has. inl (record {
+            batches = owns.batches;
+            entries = owns.entries;
+            alone = others;
+            log = has_log owns.batches (get c journal) has;
+            spelled = owns.spelled;
+            folded = owns.folded;
+          }))
+          (λ has. inr (record {
+            batches = owns.batches ++ (payload ∷ []);
+            entries = owns.entries ++ more;
+            alone = others;
+            log = has_log (owns.batches ++ (payload ∷ [])) (get c journal) has;
+            spelled = spelled_push owns.batches owns.entries payload more owns.spelled spells;
+            folded = folded_push fresh (state_of engine).durable owns.entries more owns.folded ∙ folds;
+          }))
+          (left.file owns.batches owns.stands);
+    }
+      where
+        others : (file : FileId) → file ≢ journal → get c file ≡ None
+        others file other = none_left (get (account (tells old)).files file) (get c file) (owns.alone file other) (left.others file other)
+
+    pub appending : (new : D) → Within moment left_since old new (Either (file_of engine.journal)) → Within moment left_since old new (LeavesEither (state_of engine).durable next.durable (tells old))
+    appending new run = weaker moment left_since old new _ _ run (λ c b left. either_left c b (subst (λ id. Either id c b) owns.name left))
+
+    pub append_failed : IsHonest (tells old) → (item : Option Command) (reply : Reply) → Step (state_of engine) item reply next → (new : D) (result : Result (Engine × Reply) Fault) → IsErr result
+        → Within moment left_since old new (Either (file_of engine.journal)) → Changes (tells old) (tells new) (ChangesFile (file_of engine.journal) (λ _ _. Unit {0})) → Executes moment left_since tells (state_of engine) item old new result
+    append_failed honest item reply step new result failed run changes = record {
+      reply = reply;
+      next = next;
+      step = step;
+      moments = appending new run;
+      kept = changes.kept honest;
+      told = (changes.step honest).told;
+      ok = not_ok _ result failed;
+    }
+
+    pub appended : IsHonest (tells old) → (item : Option Command) (reply : Reply) → Step (state_of engine) item reply next → (new : D) (after : Engine) → state_of after ≡ next → file_of after.journal ≡ file_of engine.journal
+        → Within moment left_since old new (Either (file_of engine.journal))
+        → Changes (tells old) (tells new) (ChangesFile (file_of engine.journal) (λ s t. (batches : List (List ℕ)) → StandsFor engine.journal batches s → StandsFor after.journal (batches ++ (payload ∷ [])) t))
+        → Executes moment left_since tells (state_of engine) item old new (Ok (after, reply))
+    appended honest item reply step new after is same run changes =
+        let change = (subst (λ id. Changes (tells old) (tells new) (ChangesFile id (λ s t. (batches : List (List ℕ)) → StandsFor engine.journal batches s → StandsFor after.journal (batches ++ (payload ∷ [])) t))) owns.name changes).step honest in
+        record {
+          reply = reply;
+          next = next;
+          step = step;
+          moments = appending new run;
+          kept = changes.kept honest;
+          told = change.told;
+          ok = (
+            refl,
+            record {
+              kept = changes.kept honest;
+              stands = is;
+              owns = record {
+                batches = owns.batches ++ (payload ∷ []);
+                entries = owns.entries ++ more;
+                alone = λ file other. change.others file other ∙ owns.alone file other;
+                name = same ∙ owns.name;
+                stands = change.file owns.batches owns.stands;
+                spelled = spelled_push owns.batches owns.entries payload more owns.spelled spells;
+                folded = folded_push fresh (state_of engine).durable owns.entries more owns.folded ∙ (folds ∙ ap (λ (s : Broker). Some s.durable) (sym is));
+              };
+            },
+          );
+        }

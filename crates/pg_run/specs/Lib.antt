@@ -1,0 +1,17 @@
+pub mod Answered
+pub mod Broker
+pub mod Commands
+pub mod Denotation
+pub mod Entries
+pub mod Executed
+pub mod Fold
+pub mod Lines
+pub mod Opened
+pub mod ProgramWords
+pub mod Ran
+pub mod ReadSteps
+pub mod Reading
+pub mod Replies
+pub mod Rows
+pub mod Served
+pub mod Words

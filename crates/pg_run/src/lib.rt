@@ -1,0 +1,18 @@
+//! The command `run`: lines of commands in, one reply line each out, and a journal on the disk.
+#![tactic(auto)]
+
+mod answer;
+mod engine;
+mod lines;
+mod msg;
+mod opening;
+mod program;
+mod records;
+mod routes;
+mod run;
+mod serving;
+mod text;
+
+pub use msg::{LIMITS, Limits};
+pub use program::pagebroker;
+pub use serving::serve;

@@ -1,0 +1,62 @@
+// The program: what its words ask for, over a site and a source.
+ghost use Rattle.std.specs.Prelude.{◌≡◌, ◌≢◌, ◌⊎◌, ◌↔◌, List, ℕ, Some, [], ◌∷◌, IsTrue, map, string_bytes};
+ghost use Rattle.pg_disk.specs.Account.{account, IsHonest};
+ghost use Rattle.pg_disk.specs.Calls.{Changes, Reads};
+ghost use Rattle.pg_run.specs.Broker.{fresh, opened_from};
+ghost use Rattle.pg_run.specs.Opened.{HasFile, HasNoFile};
+ghost use Rattle.pg_run.specs.ProgramWords.{AreRunWords, IsDirectory};
+ghost use Rattle.pg_run.specs.Ran.{Ran, ServesInput, CountsStatus, IsProgramStatus, IsAnyBut, IsSpared};
+ghost use Rattle.pg_run.specs.Served.{LeavesRun};
+
+use crate::msg::LIMITS;
+use crate::serving::serve;
+use pg_disk::{Site, Source};
+use std::alloc::Global;
+
+/// The status of words that aren't accepted.
+const USAGE: u8 = 1;
+
+/// The program over its words, with its own name first, the text of its commands, and its directory and output. It answers
+/// the status (`docs/FORMATS.md`). The one job so far is `run DIR`.
+pub fn pagebroker<S: Site, R: Source>(
+    alloc: Global,
+    words: &Vec<String>,
+    source: &mut R,
+    site: &mut S,
+) -> u8
+    ensures usage { (result ≡ 1) ↔ (AreRunWords (map string_bytes words.now.items) → ⊥) }
+    ensures untouched { result ≡ 1 → (site.new ≡ site.old) × (source.new ≡ source.old) }
+
+    // Replies, statuses, and what a crash at any moment leaves.
+    ensures ran { result ≢ 1 → Ran (LeavesRun fresh) ⊥ (IsHonest (S.tells site.old) × HasNoFile (account (S.tells site.old)).files) S.moment S.left_since S.tells (opened_from fresh)
+        LIMITS.input (R.rest source.old) (R.rest source.new) site.old site.new result }
+    ensures served { result ≡ 0 → IsHonest (S.tells site.old) → HasNoFile (account (S.tells site.old)).files → (input : List ℕ) → R.rest source.old ≡ Some input →
+        (R.rest source.new ≡ Some []) × ServesInput (opened_from fresh) input (account (S.tells site.old)) (account (S.tells site.new)) }
+    ensures complete { result ≢ 1 → IsSpared S.tells (R.rest source.old) LIMITS.input site.old site.new (S.faults site.old) (S.faults site.new) (R.faults source.old) (R.faults source.new) →
+        HasNoFile (account (S.tells site.old)).files → (result ≡ 0) ⊎ (result ≡ 6) }
+    ensures empty { IsAnyBut (1 ∷ 2 ∷ 3 ∷ 6 ∷ []) result → IsHonest (S.tells site.old) → HasNoFile (account (S.tells site.old)).files }
+    ensures damaged { result ≡ 2 → HasFile (S.tells site.old) × Changes (S.tells site.old) (S.tells site.new) (Reads 0) }
+    ensures counts { CountsStatus (S.faults site.old) (S.faults site.new) (R.faults source.old) (R.faults source.new) result }
+    ensures status { IsProgramStatus result }
+{
+    if !is_run(words.as_slice()) {
+        return USAGE;
+    }
+    serve(alloc, source, site, &LIMITS)
+}
+
+// Whether the words are those of `run`.
+fn is_run(words: &[String]) -> bool
+    ensures { IsTrue result ↔ AreRunWords (map string_bytes words.now) }
+{
+    match words {
+        [_, command, directory] => command.as_str() == "run" && is_directory(directory.as_str()),
+        _ => false,
+    }
+}
+
+fn is_directory(word: &str) -> bool
+    ensures { IsTrue result ↔ IsDirectory word.now }
+{
+    !word.is_empty() && word.as_bytes()[0] != b'-'
+}

@@ -1,0 +1,74 @@
+// The command `run` over a site and a source.
+ghost use Rattle.std.specs.Prelude.{◌≡◌, ◌⊎◌, ◌≤◌, ◌<◌, List, ℕ, Some, [], ◌∷◌, IfErr};
+ghost use Rattle.pg_disk.specs.Account.{account, IsHonest};
+ghost use Rattle.pg_disk.specs.Calls.{Changes, Reads};
+ghost use Rattle.pg_run.specs.Broker.{fresh, opened_from};
+ghost use Rattle.pg_run.specs.Opened.{HasFile, HasNoFile};
+ghost use Rattle.pg_run.specs.Ran.{Ran, ServesInput, status_of, status_of_stop, CountsStop, CountsStatus, IsDamagedStop, IsStatus, IsAnyBut, IsSpared};
+ghost use Rattle.pg_run.specs.Served.{LeavesRun};
+
+use crate::lines::ReadError;
+use crate::msg::Limits;
+use crate::opening::open;
+use crate::run::{Stop, answer_lines};
+use pg_disk::{Fault, Site, SiteFault, Source};
+use std::alloc::Global;
+
+/// The command `run`: opens the broker, executes the lines of the source in order, and tells each reply once its line's
+/// change is on the disk. It answers the program's status (`docs/FORMATS.md`).
+pub fn serve<S: Site, R: Source>(alloc: Global, source: &mut R, site: &mut S, limits: &Limits) -> u8
+    ensures ran { Ran (LeavesRun fresh) (limits.now.epochs ≤ 1) (IsHonest (S.tells site.old) × HasNoFile (account (S.tells site.old)).files) S.moment S.left_since S.tells (opened_from fresh)
+        limits.now.input (R.rest source.old) (R.rest source.new) site.old site.new result }
+    ensures served { result ≡ 0 → IsHonest (S.tells site.old) → HasNoFile (account (S.tells site.old)).files → (input : List ℕ) → R.rest source.old ≡ Some input →
+        (R.rest source.new ≡ Some []) × ServesInput (opened_from fresh) input (account (S.tells site.old)) (account (S.tells site.new)) }
+    ensures complete { IsSpared S.tells (R.rest source.old) limits.now.input site.old site.new (S.faults site.old) (S.faults site.new) (R.faults source.old) (R.faults source.new) →
+        HasNoFile (account (S.tells site.old)).files → 1 < limits.now.epochs → (result ≡ 0) ⊎ (result ≡ 6) }
+    ensures damaged { result ≡ 2 → HasFile (S.tells site.old) × Changes (S.tells site.old) (S.tells site.new) (Reads 0) }
+    ensures empty { IsAnyBut (2 ∷ 3 ∷ 6 ∷ []) result → IsHonest (S.tells site.old) → HasNoFile (account (S.tells site.old)).files }
+    ensures epochs { IsAnyBut (2 ∷ 3 ∷ 6 ∷ 8 ∷ []) result → 1 < limits.now.epochs }
+    ensures counts { CountsStatus (S.faults site.old) (S.faults site.new) (R.faults source.old) (R.faults source.new) result }
+    ensures status { IsStatus result }
+{
+    match run(alloc, source, site, limits) {
+        Ok(()) => 0,
+        Err(stop) => status(stop),
+    }
+}
+
+// Opens the broker, and answers the lines.
+fn run<S: Site, R: Source>(
+    alloc: Global,
+    source: &mut R,
+    site: &mut S,
+    limits: &Limits,
+) -> Result<(), Stop>
+    ensures ran { Ran (LeavesRun fresh) (limits.now.epochs ≤ 1) (IsHonest (S.tells site.old) × HasNoFile (account (S.tells site.old)).files) S.moment S.left_since S.tells (opened_from fresh)
+        limits.now.input (R.rest source.old) (R.rest source.new) site.old site.new (status_of result) }
+    ensures damaged { IfErr result (λ stop. IsDamagedStop stop → HasFile (S.tells site.old) × Changes (S.tells site.old) (S.tells site.new) (Reads 0)) }
+    ensures empty { IsAnyBut (2 ∷ 3 ∷ 6 ∷ []) (status_of result) → IsHonest (S.tells site.old) → HasNoFile (account (S.tells site.old)).files }
+    ensures epochs { IsAnyBut (2 ∷ 3 ∷ 6 ∷ 8 ∷ []) (status_of result) → 1 < limits.now.epochs }
+    ensures cause { CountsStop (S.faults site.old) (S.faults site.new) (R.faults source.old) (R.faults source.new) result }
+{
+    let engine = open(alloc, site, limits)?;
+    answer_lines(alloc, engine, source, site, limits.input)
+}
+
+// The status that a run ends with.
+fn status(stop: Stop) -> u8
+    ensures { result ≡ status_of_stop stop }
+{
+    match stop {
+        Stop::Site(SiteFault::Disk(fault)) => match fault {
+            Fault::Damaged(_) => 2,
+            Fault::Failed => 3,
+            Fault::Memory => 6,
+            Fault::Spent => 8,
+        },
+        Stop::Site(SiteFault::Sink) => 4,
+        Stop::Source(error) => match error {
+            ReadError::Failed => 5,
+            ReadError::Memory => 6,
+            ReadError::TooLong => 7,
+        },
+    }
+}

@@ -1,0 +1,9 @@
+//! Scripts over the memory site and the memory source, through the public calls alone.
+#![tactic(auto)]
+
+#[cfg(test)]
+mod failing;
+#[cfg(test)]
+mod scripts;
+#[cfg(test)]
+mod stage;
