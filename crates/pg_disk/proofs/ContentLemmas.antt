@@ -108,7 +108,7 @@ some_is x y e = cc
 none_some : {X : Type 0} (x : X) → None ≡ Some x → ⊥
 none_some x e = cc
 
-some_items : (v : Vec ℕ Global) (o : Option (Vec ℕ Global)) (p : Option FileState) → o ≡ Some v → items_of o ≡ bytes_of p → (s : FileState) × (p ≡ Some s) × (s.bytes ≡ v.items)
+pub some_items : (v : Vec ℕ Global) (o : Option (Vec ℕ Global)) (p : Option FileState) → o ≡ Some v → items_of o ≡ bytes_of p → (s : FileState) × (p ≡ Some s) × (s.bytes ≡ v.items)
 some_items v o None is same = absurd (none_some v.items (sym same ∙ ap items_of is))
 some_items v o (Some s) is same = (s, refl, some_is s.bytes v.items (sym same ∙ ap items_of is))
 

@@ -16,10 +16,10 @@ use Rattle.pg_disk.specs.Replay.{overwritten_content, written_file, quiet_file, 
 use Rattle.pg_disk.proofs.FileOrder.{files_total, files_exact, get_inserted, get_beside, get_removed, get_kept}
 use Rattle.pg_disk.proofs.ContentLemmas.{content_stays}
 
-abbrev AllSound : Account → Type 0
+abbrev pub AllSound : Account → Type 0
 AllSound a = (f : FileId) (s : FileState) → get a.files f ≡ Some s → IsSound s
 
-length-overwritten : (at : ℕ) (bytes old : List ℕ) → length (overwritten_content at bytes old) ≡ min at (length old) + (length bytes + (length old - (at + length bytes)))
+pub length-overwritten : (at : ℕ) (bytes old : List ℕ) → length (overwritten_content at bytes old) ≡ min at (length old) + (length bytes + (length old - (at + length bytes)))
 length-overwritten at bytes old = omega (arith, length-append (take at old) (bytes ++ drop (at + length bytes) old), length-append bytes (drop (at + length bytes) old), length-take at old, length-drop (at + length bytes) old)
 
 sound_written : (at : ℕ) (bytes : List ℕ) (ok : Bool) (s : FileState) → IsSound s → IsSound (written_file at bytes ok s)
@@ -51,7 +51,7 @@ sound_changed : (f : FileId) (change : FileState → FileState) → ((s : FileSt
 sound_changed f change then a None is sound = sound
 sound_changed f change then a (Some s) is sound = put_sound a.files f (change s) sound (then s (sound f s is))
 
-sound_step : (x : Event) (a : Account) → AllSound a → AllSound (step x a)
+pub sound_step : (x : Event) (a : Account) → AllSound a → AllSound (step x a)
 sound_step (event.Write f at bytes ok) a sound = sound_changed f (written_file at bytes.items ok) (sound_written at bytes.items ok) a (get a.files f) refl sound
 sound_step (event.Sync f ok) a sound = sound_changed f (synced_file ok) (sound_synced ok) a (get a.files f) refl sound
 sound_step (event.Create f true) a sound = put_sound a.files f fresh sound (record { no_shorter = omega arith; no_longer = omega arith })
@@ -60,6 +60,7 @@ sound_step (event.Remove f true) a sound = cut_sound a.files f sound
 sound_step (event.Remove f false) a sound = sound
 sound_step (event.Emit bytes ok) a sound = sound
 sound_step (event.Put f bytes) a sound = put_sound a.files f (quiet_file bytes.items) sound (record { no_shorter = omega arith; no_longer = omega arith })
+sound_step (event.Told bytes) a sound = sound
 sound_step event.List a sound = sound
 sound_step (event.Length f) a sound = sound
 sound_step (event.Read f count) a sound = sound
@@ -83,7 +84,7 @@ holds_overwritten at bytes old le = record {
       ap (λ n. get_or (overwritten_content at bytes old) (n + i) 0) (sym size) ∙ get_or-append-add (take at old) (bytes ++ drop (at + length bytes) old) i 0 ∙ get_or_append_left bytes _ 0 i lt;
 }
 
-outside_overwritten : (at : ℕ) (bytes old : List ℕ) → at ≤ length old → (i : ℕ) → i < length old → (i < at) ⊎ (at + length bytes ≤ i) → get_or (overwritten_content at bytes old) i 0 ≡ get_or old i 0
+pub outside_overwritten : (at : ℕ) (bytes old : List ℕ) → at ≤ length old → (i : ℕ) → i < length old → (i < at) ⊎ (at + length bytes ≤ i) → get_or (overwritten_content at bytes old) i 0 ≡ get_or old i 0
 outside_overwritten at bytes old le i lt (inl low) =
     let size : length (take at old) ≡ at = length-take-le at old le in
     get_or_append_left (take at old) _ 0 i (omega (arith, size, low)) ∙ get_or-take at old i 0 low
@@ -146,7 +147,7 @@ left_synced true s left sound is = record {
 }
 left_synced false s left sound is = is
 
-eq_from_true : (f q : FileId) → eq_by_cmp file_cmp q f ≡ true → q ≡ f
+pub eq_from_true : (f q : FileId) → eq_by_cmp file_cmp q f ≡ true → q ≡ f
 eq_from_true f q e = files_exact q f ((Equal-is (file_cmp q f)).0 e)
 
 left_changed : (f : FileId) (change : FileState → FileState) (a : Account) (o : Option FileState) → get a.files f ≡ o → ((s : FileState) (left : List ℕ) → get a.files f ≡ Some s → IsLeft (change s) left → IsLeft s left)

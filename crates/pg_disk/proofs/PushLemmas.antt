@@ -8,7 +8,7 @@ use Rattle.pg_disk.specs.Moments.{Elapses}
 use Rattle.pg_disk.specs.declared.call_record.Event.{Event}
 use Rattle.pg_disk.specs.Replay.{step, replay, LeftIn, LeftSince, start}
 
-after_push : (a : Account) (es : List Event) (e : Event) → replay a (es ++ e ∷ []) ≡ step e (replay a es)
+pub after_push : (a : Account) (es : List Event) (e : Event) → replay a (es ++ e ∷ []) ≡ step e (replay a es)
 after_push a [] e = refl
 after_push a (x ∷ es) e = after_push (step x a) es e
 

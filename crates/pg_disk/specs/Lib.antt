@@ -2,6 +2,8 @@ pub mod Account
 pub mod Calls
 pub mod Contents
 pub mod Counts
+pub mod Crash
+pub mod Left
 pub mod Events
 pub mod Files
 pub mod Image

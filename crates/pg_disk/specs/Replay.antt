@@ -7,7 +7,7 @@ use Rattle.pg_disk.specs.Account.{FileState, Account}
 use Rattle.pg_disk.specs.Image.{Leaves}
 use Rattle.pg_disk.specs.Calls.{fresh}
 use Rattle.pg_disk.specs.declared.call_record.Event.{Event}
-use Rattle.pg_disk.specs.declared.call_record.Event.TheVariants.{List, Length, Read, Write, Sync, Create, Remove, Emit, Put}
+use Rattle.pg_disk.specs.declared.call_record.Event.TheVariants.{List, Length, Read, Write, Sync, Create, Remove, Emit, Put, Told}
 
 -- the old content, with these bytes at this offset
 abbrev pub overwritten_content : ℕ → Seq ℕ → Seq ℕ → Seq ℕ
@@ -70,6 +70,9 @@ after_emit bytes done a = record { files = a.files; told = if_done done (a.told 
 abbrev pub after_put : FileId → Seq ℕ → Account → Account
 after_put f bytes a = with_file f (quiet_file bytes) a
 
+abbrev pub after_told : Seq ℕ → Account → Account
+after_told bytes a = after_emit bytes true a
+
 -- what changes nothing
 abbrev pub unchanged : Account → Account
 unchanged a = a
@@ -85,6 +88,7 @@ step (Create f done) a = after_create f done a
 step (Remove f done) a = after_remove f done a
 step (Emit bytes done) a = after_emit bytes.items done a
 step (Put f bytes) a = after_put f bytes.items a
+step (Told bytes) a = after_told bytes.items a
 
 -- no files, nothing told and nothing taken
 abbrev pub start : Account

@@ -33,12 +33,15 @@ pub enum Event {
     Emit(Vec<u8>, bool),
     /// The file got this content from outside, with nothing pending. It is no call.
     Put(FileId, Vec<u8>),
+    /// These bytes count as told from before. It is no emit.
+    Told(Vec<u8>),
 }
 
 impl Event {
     ghost use Rattle.pg_disk.specs.Events.{call_of, is_emit};
 
-    fn call(&self) -> Option<CallKind>
+    /// The call of the disk that it is.
+    pub fn call(&self) -> Option<CallKind>
         ensures { result ≡ call_of self.now }
     {
         match self {
@@ -49,7 +52,7 @@ impl Event {
             Event::Sync(file, _) => Some(CallKind::Sync(*file)),
             Event::Create(file, _) => Some(CallKind::Create(*file)),
             Event::Remove(file, _) => Some(CallKind::Remove(*file)),
-            Event::Emit(_, _) | Event::Put(_, _) => None,
+            Event::Emit(_, _) | Event::Put(_, _) | Event::Told(_) => None,
         }
     }
 
@@ -83,6 +86,12 @@ impl CallRecord {
             calls: Vec::new(alloc),
             emits: 0,
         }
+    }
+
+    pub fn events(&self) -> &[Event]
+        ensures { result.now ≡ self.now.events.items }
+    {
+        &self.events
     }
 
     /// The calls of the disk.

@@ -2,6 +2,7 @@
 #![tactic(auto)]
 
 mod call_record;
+mod crash;
 mod disk;
 mod fault;
 mod file_id;
@@ -12,6 +13,7 @@ mod site;
 mod source;
 
 pub use call_record::CallKind;
+pub use crash::Pick;
 pub use disk::Disk;
 pub use fault::{Damage, Failed, Fault, ListError, Rule, SiteFault};
 pub use file_id::{FileId, Kind};

@@ -7,10 +7,12 @@ ghost use Rattle.pg_disk.specs.Calls.{Changes, Reads, ReadsAt, ChangesFile, Ther
 ghost use Rattle.pg_disk.specs.Contents.{content_at};
 ghost use Rattle.pg_disk.specs.Counts.{CountsDisk, CountsListing, CountsOutput};
 ghost use Rattle.pg_disk.specs.Image.{Leaves, LeavesAt, LeavesPrefix, IsFileThere, MayBeCreated, MayBeRemoved};
+ghost use Rattle.pg_disk.specs.MemSite.{calls_of};
 ghost use Rattle.pg_disk.specs.Moments.{Elapses};
 ghost use Rattle.pg_disk.specs.Recorded.{Settled};
 
 use crate::call_record::CallKind;
+use crate::crash::{Pick, left_within};
 use crate::memory_state::MemoryState;
 use crate::{Disk, Failed, FileId, ListError, Site};
 use std::alloc::{AllocError, Global};
@@ -27,8 +29,9 @@ pub struct MemSite {
 }
 
 impl MemSite {
-    ghost use Rattle.pg_disk.specs.MemSite.{account_of, faults_of, short_of, calls_of, emit_count, named_calls, named_emits, KeepsNames, IsUntouched, FailsNextCall, FailsNextEmit};
+    ghost use Rattle.pg_disk.specs.MemSite.{account_of, events_of, faults_of, short_of, emit_count, named_calls, named_emits, KeepsNames, IsUntouched, FailsNextCall, FailsNextEmit};
     ghost use Rattle.pg_disk.specs.Replay.{start, after_put};
+    ghost use Rattle.pg_disk.specs.Crash.{IsAtRest, LeftWithin};
 
     /// No files, and nothing told, read or made to fail.
     pub fn new(alloc: Global) -> Self
@@ -126,6 +129,32 @@ impl MemSite {
         ensures { result ≡ short_of self.now }
     {
         self.short
+    }
+
+    /// The site as it is left where it stops within the call of this number, counted from 1: with nothing pending, no call
+    /// or emit made, and nothing named to fail. The pick says what became of the bytes that were pending, those of a write
+    /// that is stopped among them. A create or a removal that is stopped has happened, but for `Pick::Old` and where it
+    /// was named to fail. A sync that is stopped has ended nothing.
+    pub fn crash(&self, stop: u64, pick: Pick) -> Result<MemSite, AllocError>
+        requires from_one { 0 < stop }
+        requires made { stop ≤ length (calls_of self.now) }
+        ensures honest { IfOk result (λ site. IsHonest (Some (account_of site))) }
+        ensures rest { IfOk result (λ site. IsAtRest (events_of site)) }
+        ensures left { IfOk result (λ site. LeftWithin (events_of self.now) stop pick (account_of site)) }
+        ensures names { IfOk result (λ site. (named_calls site ≡ []) × (named_emits site ≡ [])) }
+        ensures faults { IfOk result (λ site. faults_of site ≡ record { disk = 0; output = 0 }) }
+        ensures short { IfOk result (λ site. short_of site ≡ 0) }
+    {
+        let alloc = self.state.alloc();
+        let state = left_within(alloc, self.state.history().events(), stop, pick)?;
+        Ok(MemSite {
+            state,
+            named_calls: Vec::new(alloc),
+            named_emits: Vec::new(alloc),
+            faults: 0,
+            output_faults: 0,
+            short: 0,
+        })
     }
 
     fn call_succeeds(&self) -> bool
@@ -368,6 +397,79 @@ mod tests {
         }
         assert!(rt; fails(rt.alloc(), &[], &[1])?);
         assert!(rt; !fails(rt.alloc(), &[0, 9], &[2])?);
+        Ok(())
+    }
+
+    // A file that is made, written, synced, written over and past its end, synced and removed, with something told between.
+    fn rewrite<S: Site>(site: &mut S) -> Result<(), Failed>
+        requires { IsHonest (S.tells site.old) → get (account (S.tells site.old)).files PAGE ≡ None }
+    {
+        site.create(PAGE)?;
+        site.write(PAGE, 0, b"abcd")?;
+        site.emit(b"x")?;
+        site.sync(PAGE)?;
+        site.emit(b"yz")?;
+        site.write(PAGE, 1, b"X")?;
+        site.write(PAGE, 3, b"YZ")?;
+        site.sync(PAGE)?;
+        site.remove(PAGE)?;
+        site.emit(b"late")
+    }
+
+    // For each call: what is told before it, and what is left where it is stopped, of old bytes, new ones, and one byte.
+    const LEFT: [(&str, [Option<&str>; 3]); 7] = [
+        ("", [None, Some(""), Some("")]),
+        ("", [Some(""), Some("abcd"), Some("####")]),
+        ("x", [Some(""), Some("abcd"), Some("####")]),
+        ("xyz", [Some("abcd"), Some("aXcd"), Some("a#cd")]),
+        ("xyz", [Some("abcd"), Some("aXcYZ"), Some("a#c##")]),
+        ("xyz", [Some("abcd"), Some("aXcYZ"), Some("a#c##")]),
+        ("xyz", [Some("aXcYZ"), None, None]),
+    ];
+
+    const PICKS: [Pick; 3] = [Pick::Old, Pick::New, Pick::Fill(b'#')];
+
+    // Whether this is told, and these are left, where the site stops within the call.
+    fn leaves(
+        site: &MemSite,
+        stop: u64,
+        told: &str,
+        wants: &[Option<&str>; 3],
+    ) -> Result<bool, AllocError>
+        requires from_one { 0 < stop }
+        requires made { stop ≤ length (calls_of site.now) }
+    {
+        for (pick, want) in PICKS.iter().zip(wants) {
+            let left = site.crash(stop, *pick)?;
+            let is_untouched = left.calls() == 0 && left.short() == 0;
+            let is_told = left.told() == told.as_bytes();
+            if !is_untouched || !is_told || left.bytes(PAGE) != want.map(|text| text.as_bytes()) {
+                return Ok(false);
+            }
+        }
+        Ok(true)
+    }
+
+    #[test]
+    fn crashes(rt: HostRuntime) -> Result<(), Fail> {
+        let mut site = MemSite::new(rt.alloc());
+        rewrite(&mut site)?;
+        assert_eq!(rt; site.calls(), 7);
+        for (place, (told, wants)) in LEFT.iter().enumerate() {
+            let stop = place as u64 + 1;
+            assert!(rt; leaves(&site, stop, told, wants)?, "within call {stop}");
+        }
+        Ok(())
+    }
+
+    #[test]
+    fn crashes_where_a_write_failed(rt: HostRuntime) -> Result<(), Fail> {
+        let mut site = MemSite::new(rt.alloc());
+        site.fail(&[5])?;
+        assert!(rt; rewrite(&mut site).is_err());
+        assert_eq!(rt; site.calls(), 5);
+        let wants = [Some("abcd"), Some("aXcd"), Some("a#c##")];
+        assert!(rt; leaves(&site, 5, "xyz", &wants)?);
         Ok(())
     }
 }

@@ -7,7 +7,7 @@ ghost use Rattle.pg_disk.specs.Calls.{ReadsAt};
 ghost use Rattle.pg_disk.specs.Contents.{HasContents, ComesTo, content_at};
 ghost use Rattle.pg_disk.specs.Files.{file_cmp};
 ghost use Rattle.pg_disk.specs.Recorded.{RecordsCall, RecordsEmit, RecordsOther, Recorded};
-ghost use Rattle.pg_disk.specs.Replay.{start, replay, overwritten_content, if_done, unchanged, after_read, after_write, after_sync, after_create, after_remove, after_emit, after_put};
+ghost use Rattle.pg_disk.specs.Replay.{start, replay, overwritten_content, if_done, unchanged, after_read, after_write, after_sync, after_create, after_remove, after_emit, after_put, after_told};
 
 use crate::FileId;
 use crate::call_record::{CallKind, CallRecord, Event};
@@ -38,6 +38,10 @@ impl MemoryState {
             contents: BTreeMap::new(alloc),
             told: Vec::new(alloc),
         }
+    }
+
+    pub fn alloc(&self) -> Global {
+        self.alloc
     }
 
     pub fn history(&self) -> &CallRecord
@@ -162,6 +166,17 @@ impl MemoryState {
         Ok(())
     }
 
+    /// Adds bytes to what was told, and is no emit.
+    pub fn begin_told(&mut self, bytes: &[u8]) -> Result<(), AllocError>
+        ensures { RecordsOther (events_of self.old) (events_of self.new) (after_told bytes.now) result }
+    {
+        let copy = Vec::from_slice(self.alloc, bytes)?;
+        self.history.reserve()?;
+        tell(&mut self.told, bytes, true)?;
+        self.history.add(Event::Told(copy));
+        Ok(())
+    }
+
     pub fn put(&mut self, file: FileId, bytes: &[u8]) -> Result<(), AllocError>
         ensures { RecordsOther (events_of self.old) (events_of self.new) (after_put file bytes.now) result }
     {
@@ -193,7 +208,7 @@ fn files_of(alloc: Global, contents: &BTreeMap<FileId, Vec<u8>>) -> Result<Vec<F
 }
 
 // Adds the bytes to what was told, where they are to be told.
-fn tell(told: &mut Vec<u8>, bytes: &[u8], done: bool) -> Result<(), AllocError>
+pub(crate) fn tell(told: &mut Vec<u8>, bytes: &[u8], done: bool) -> Result<(), AllocError>
     ensures ok { OnOk result (told.new.items ≡ if_done done (told.old.items ++ bytes.now) told.old.items) }
     ensures err { OnErr result (told.new.items ≡ told.old.items) }
 {
@@ -204,7 +219,7 @@ fn tell(told: &mut Vec<u8>, bytes: &[u8], done: bool) -> Result<(), AllocError>
 }
 
 // Does a create to the contents.
-fn create_in(
+pub(crate) fn create_in(
     contents: &mut BTreeMap<FileId, Vec<u8>>,
     alloc: Global,
     file: FileId,
@@ -221,7 +236,7 @@ fn create_in(
 }
 
 // Does a removal to the contents.
-fn remove_in(contents: &mut BTreeMap<FileId, Vec<u8>>, file: FileId, done: bool)
+pub(crate) fn remove_in(contents: &mut BTreeMap<FileId, Vec<u8>>, file: FileId, done: bool)
     ensures { ComesTo contents.old contents.new (after_remove file done) }
 {
     if done {
@@ -230,7 +245,7 @@ fn remove_in(contents: &mut BTreeMap<FileId, Vec<u8>>, file: FileId, done: bool)
 }
 
 // Does a write to the contents.
-fn overwrite_in(
+pub(crate) fn overwrite_in(
     contents: &mut BTreeMap<FileId, Vec<u8>>,
     file: FileId,
     at: u64,
