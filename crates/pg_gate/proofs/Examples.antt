@@ -1,6 +1,7 @@
 -- Small files and their batches.
 use Rattle.std.proofs.Common.{◌≡◌, inl, inr, ℕ, List, [], ◌∷◌, length, get_or, refl, sym, ap, arith}
 use Rattle.pg_gate.specs.Gated.{Batches}
+use Rattle.pg_gate.specs.Spans.{spans_of}
 use Rattle.pg_gate.proofs.Unique.{opened_long, short_unique}
 
 -- an open gate, the length 5, five bytes and a gate that isn't open
@@ -18,6 +19,11 @@ one_batch = inr (0, [], omega arith, refl)
 no_other : (batches : List (List ℕ)) → Batches fifteen batches → batches ≡ payload ∷ []
 unfolding fifteen
 no_other batches has = short_unique fifteen batches (payload ∷ []) (omega arith) has one_batch
+
+-- its payload stands behind the gate and the length
+one_place : spans_of 0 (payload ∷ []) ≡ record { at = 9; length = 5 } ∷ []
+unfolding payload
+one_place = refl
 
 -- one byte is no batch, whatever it is
 lone_seven : Batches (7 ∷ []) []

@@ -1,7 +1,11 @@
 pub mod Adding
 pub mod Appending
 mod Examples
+pub mod CutWalk
 pub mod Laying
+pub mod Reading
+pub mod Scanning
 pub mod Sealing
 pub mod Stages
 pub mod Unique
+pub mod Walking

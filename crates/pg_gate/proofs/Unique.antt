@@ -11,26 +11,26 @@ use Rattle.pg_gate.specs.declared.log.Rest.{Rest}
 use Rattle.pg_gate.proofs.Sealing.{batches_from, front_left}
 
 -- equal texts of two parts each, of which the first are as long
-front_of : (a b c d : List ℕ) → length a ≡ length c → a ++ b ≡ c ++ d → a ≡ c
+pub front_of : (a b c d : List ℕ) → length a ≡ length c → a ++ b ≡ c ++ d → a ≡ c
 front_of a b c d size e = sym (take_at a b (length a) refl) ∙ ap (take (length a)) e ∙ take_at c d (length a) (sym size)
 
-back_of : (a b c d : List ℕ) → length a ≡ length c → a ++ b ≡ c ++ d → b ≡ d
+pub back_of : (a b c d : List ℕ) → length a ≡ length c → a ++ b ≡ c ++ d → b ≡ d
 back_of a b c d size e = sym (drop_at a b (length a) refl) ∙ ap (drop (length a)) e ∙ drop_at c d (length a) (sym size)
 
-tail_of : (x y : ℕ) (xs ys : List ℕ) → x ∷ xs ≡ y ∷ ys → xs ≡ ys
+pub tail_of : (x y : ℕ) (xs ys : List ℕ) → x ∷ xs ≡ y ∷ ys → xs ≡ ys
 tail_of x y xs ys e = cc
 
-head_of : (x y : ℕ) (xs ys : List ℕ) → x ∷ xs ≡ y ∷ ys → x ≡ y
+pub head_of : (x y : ℕ) (xs ys : List ℕ) → x ∷ xs ≡ y ∷ ys → x ≡ y
 head_of x y xs ys e = cc
 
-fits_first : (payload : List ℕ) (batches : List (List ℕ)) → AllFit (payload ∷ batches) → length payload < 2 ^ 64
+pub fits_first : (payload : List ℕ) (batches : List (List ℕ)) → AllFit (payload ∷ batches) → length payload < 2 ^ 64
 fits_first payload batches fit = fit 0 payload (omega arith)
 
-fits_rest : (payload : List ℕ) (batches : List (List ℕ)) → AllFit (payload ∷ batches) → AllFit batches
+pub fits_rest : (payload : List ℕ) (batches : List (List ℕ)) → AllFit (payload ∷ batches) → AllFit batches
 fits_rest payload batches fit = λ k d lt. fit (suc k) d (omega (arith, lt))
 
 -- a length's eight bytes tell the length
-same_length : (n m : ℕ) → n < 2 ^ 64 → m < 2 ^ 64 → to_be_bytes w64 n ≡ to_be_bytes w64 m → n ≡ m
+pub same_length : (n m : ℕ) → n < 2 ^ 64 → m < 2 ^ 64 → to_be_bytes w64 n ≡ to_be_bytes w64 m → n ≡ m
 same_length n m lt below e = sym (from_be_bytes-to_be_bytes_8 n lt) ∙ ap (from_be_bytes w64) e ∙ from_be_bytes-to_be_bytes_8 m below
 
 -- the batches before a shut gate
@@ -55,7 +55,7 @@ opened_unique (p ∷ xs) (q ∷ ys) g h b d fit fits shut closed e =
 pub opened_long : (p : List ℕ) (ps : List (List ℕ)) (gate : ℕ) (behind : List ℕ) → 10 ≤ length (opened (p ∷ ps) ++ gate ∷ behind)
 opened_long p ps gate behind = omega (arith, length-append (opened (p ∷ ps)) (gate ∷ behind))
 
-short_none : (bytes : List ℕ) (batches : List (List ℕ)) (gate : ℕ) (behind : List ℕ) → length bytes ≤ 1 → bytes ≡ opened batches ++ gate ∷ behind → [] ≡ batches
+pub short_none : (bytes : List ℕ) (batches : List (List ℕ)) (gate : ℕ) (behind : List ℕ) → length bytes ≤ 1 → bytes ≡ opened batches ++ gate ∷ behind → [] ≡ batches
 short_none bytes [] gate behind short e = refl
 short_none bytes (p ∷ ps) gate behind short e = absurd (omega (arith, short, ap length e, opened_long p ps gate behind))
 
@@ -69,7 +69,7 @@ batches_unique bytes xs ys fit fits (inr some) (inr same) = opened_unique xs ys 
 none_fit : AllFit []
 none_fit = λ k d none. absurd (omega (arith, none))
 
-opened_fit : (batches : List (List ℕ)) (n : ℕ) → length (opened batches) ≤ n → n < 2 ^ 64 → AllFit batches
+pub opened_fit : (batches : List (List ℕ)) (n : ℕ) → length (opened batches) ≤ n → n < 2 ^ 64 → AllFit batches
 opened_fit [] n le lt = none_fit
 opened_fit (p ∷ ps) n le lt =
     let size = length-append p (opened ps) in

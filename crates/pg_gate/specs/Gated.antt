@@ -55,6 +55,11 @@ abbrev pub RestsAt : ℕ → List (List ℕ) → Option FileState → Type 0
 RestsAt gate batches None = ⊥
 RestsAt gate batches (Some s) = IsAtRest gate batches s
 
+-- a file of at most one byte, of which nothing is pending
+abbrev pub IsShort : Option FileState → Type 0
+IsShort None = ⊥
+IsShort (Some s) = IsQuiet s × (length s.bytes ≤ 1)
+
 -- a gated file at rest stands for these batches, where this is the file
 abbrev pub StandsFor : Rest → List (List ℕ) → Option FileState → Type 0
 StandsFor rest batches s = RestsAt rest.gate batches s

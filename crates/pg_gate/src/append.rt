@@ -37,7 +37,7 @@ impl Rest {
         ensures only { IfErr result IsFailedOrSpent }
         ensures cause { CountsFault (D.faults disk.old) (D.faults disk.new) result }
     {
-        let end = self.length() + 9;
+        let end = self.length().saturating_add(9);
         let count = batch.len() as u64;
         if end > LIMIT || count > LIMIT - end {
             return Err(Fault::Spent);

@@ -86,7 +86,7 @@ impl Filling {
         ensures only { IfErr result IsFailedOrSpent }
         ensures cause { CountsFault (D.faults disk.old) (D.faults disk.new) result }
     {
-        let end = self.gate + 9 + self.length;
+        let end = self.gate.saturating_add(9 + self.length);
         let count = bytes.len() as u64;
         if end > LIMIT || count > LIMIT - end {
             return Err(Fault::Spent);

@@ -1,25 +1,25 @@
 // A new gated file.
-ghost use Rattle.std.specs.Prelude.{◌≡◌, [], IfOk, IfErr, OnOk, OnErr, Some, None};
+ghost use Rattle.std.specs.Prelude.{◌≡◌, [], IfOk, IfErr, OnOk, OnErr, None};
 ghost use Rattle.std.specs.FinMap.{get};
 ghost use Rattle.pg_disk.specs.Account.{account, IsHonest};
-ghost use Rattle.pg_disk.specs.Calls.{Changes, ChangesFile, fresh};
+ghost use Rattle.pg_disk.specs.Calls.{Changes, ChangesFile};
 ghost use Rattle.pg_disk.specs.Counts.{CountsDisk, CountsFault};
 ghost use Rattle.pg_disk.specs.Image.{LeavesAt};
 ghost use Rattle.pg_disk.specs.Moments.{Within};
-ghost use Rattle.pg_gate.specs.Gated.{HasNone, RestsAt, StandsFor, file_of, counted_length};
+ghost use Rattle.pg_gate.specs.Gated.{HasBatches, HasNone, IsShort, RestsAt, StandsFor, file_of, counted_length};
 
 use crate::Rest;
 use pg_disk::{Disk, Failed, Fault, FileId};
 
-// Writes the closed gate of an empty file, and syncs.
-fn close<D: Disk>(file: FileId, disk: &mut D) -> Result<(), Failed>
-    requires { IsHonest (D.tells disk.old) → get (account (D.tells disk.old)).files file ≡ Some fresh }
+// Writes the closed gate of a file of at most one byte, and syncs.
+pub(crate) fn close<D: Disk>(file: FileId, disk: &mut D) -> Result<(), Failed>
+    requires { IsHonest (D.tells disk.old) → IsShort (get (account (D.tells disk.old)).files file) }
     ensures closed { OnOk result (Changes (D.tells disk.old) (D.tells disk.new)
         (ChangesFile file (λ _ s. RestsAt 0 [] s))) }
     ensures other_files { OnErr result (Changes (D.tells disk.old) (D.tells disk.new)
         (ChangesFile file (λ _ _. Unit {0}))) }
     ensures any_moment { Within D.moment D.left_since disk.old disk.new
-        (LeavesAt file HasNone (D.tells disk.old)) }
+        (LeavesAt file (HasBatches []) (D.tells disk.old)) }
     ensures cause { CountsDisk (D.faults disk.old) (D.faults disk.new) result }
 {
     disk.write(file, 0, &[0])?;

@@ -5,7 +5,15 @@ mod append;
 mod fill;
 mod gate;
 mod log;
+mod opening;
+mod places;
 mod seal;
+mod spans;
+#[cfg(test)]
+mod tests;
 
 pub use gate::lay;
 pub use log::{Filling, Rest};
+pub use opening::scan;
+pub use places::{peek, read_span};
+pub use spans::Span;

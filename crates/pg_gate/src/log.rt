@@ -3,7 +3,7 @@ ghost use Rattle.std.specs.Prelude.{◌<◌, ◌+◌, ◌^◌};
 
 use pg_disk::FileId;
 
-/// No gated file grows past this many bytes.
+/// No gated file grows past this many bytes. One that is longer already is read, and doesn't grow.
 pub(crate) const LIMIT: u64 = 1 << 62;
 
 /// A gated file at rest, of which nothing is pending. Each call that writes takes it by value and gives it back at Ok
@@ -13,7 +13,7 @@ pub struct Rest {
     pub(crate) file: FileId,
     // The offset of the closed gate, in bytes.
     pub(crate) gate: u64,
-    ghost in_range: { gate < 2 ^ 62 },
+    ghost in_range: { gate + 1 < 2 ^ 64 },
 }
 
 /// A gated file with a batch being written behind its closed gate. The batch doesn't count until it is sealed.
@@ -26,7 +26,8 @@ pub struct Filling {
     pub(crate) length: u64,
     // Whether there is a place for the batch's length.
     pub(crate) started: bool,
-    ghost in_range: { gate + length < 2 ^ 62 },
+    ghost gate_in_range: { gate + 1 < 2 ^ 64 },
+    ghost length_in_range: { length < 2 ^ 62 },
 }
 
 impl Rest {

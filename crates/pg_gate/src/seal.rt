@@ -15,9 +15,10 @@ use pg_disk::{Disk, Failed, Fault, FileId};
 
 // Writes the length and the next closed gate, and syncs: the batch is whole, and doesn't count.
 fn stage<D: Disk>(filling: &Filling, disk: &mut D) -> Result<(), Failed>
-    requires { IsHonest (D.tells disk.old) →
+    requires filled { IsHonest (D.tells disk.old) →
         (batches : _) × (piece : _) ×
         Fills filling.now batches piece (get (account (D.tells disk.old)).files filling.now.file) }
+    requires room { filling.now.gate + 9 + filling.now.length < 2 ^ 62 }
     ensures staged { OnOk result (Changes (D.tells disk.old) (D.tells disk.new)
         (ChangesFile filling.now.file (λ s t.
         (batches : _) (piece : _) → Fills filling.now batches piece s → Stages filling.now.gate batches piece t))) }
@@ -85,7 +86,7 @@ impl Filling {
         ensures only { IfErr result IsFailedOrSpent }
         ensures cause { CountsFault (D.faults disk.old) (D.faults disk.new) result }
     {
-        let end = self.gate + 9 + self.length;
+        let end = self.gate.saturating_add(9 + self.length);
         if end >= LIMIT {
             return Err(Fault::Spent);
         }

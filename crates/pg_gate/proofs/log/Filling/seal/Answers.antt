@@ -1,4 +1,4 @@
-use Rattle.std.proofs.Common.{refl}
+use Rattle.std.proofs.Common.{arith}
 use Rattle.pg_gate.proofs.Stages.{nothing_done, in_stage, can_open, in_opening, all_sealed}
 use Rattle.pg_gate.proofs.log.Filling.seal.Goals as goal
 
@@ -24,4 +24,4 @@ returns-clause-any_moment g c =
 
 pub returns-clause-sealed : goal.returns-clause-sealed
 returns-clause-sealed g c =
-    all_sealed c.args.self g.D.Disk.moment g.D.Disk.left_since g.D.Disk.tells c.args.disk.now (g.met.D.Disk.only_now c.args.disk.now) c.stage.new.disk c.stage.ensures.any_moment c.in_ok-stage.ensures.staged c.open.new.disk _ refl c.in_ok-open.ensures.opened
+    all_sealed c.args.self g.D.Disk.moment g.D.Disk.left_since g.D.Disk.tells c.args.disk.now (g.met.D.Disk.only_now c.args.disk.now) c.stage.new.disk c.stage.ensures.any_moment c.in_ok-stage.ensures.staged c.open.new.disk _ (omega arith) c.in_ok-open.ensures.opened

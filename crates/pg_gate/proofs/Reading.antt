@@ -1,0 +1,62 @@
+-- Calls that only read.
+use Rattle.std.proofs.Common.{ℕ, ◌+◌, List, Option, refl, ◌∙◌, ap, subst, arith}
+use Rattle.std.specs.FinMap.{get}
+use Rattle.pg_disk.specs.declared.file_id.FileId.{FileId}
+use Rattle.pg_disk.specs.declared.fault.Fault.{Fault}
+use Rattle.pg_disk.specs.declared.fault.Fault.TheVariants.{Failed, Damaged, Spent, Memory}
+use Rattle.pg_disk.specs.Files.{Files}
+use Rattle.pg_disk.specs.Account.{Account, account, IsHonest}
+use Rattle.pg_disk.specs.Image.{IsImage, IsFileThere, Leaves}
+use Rattle.pg_disk.specs.Moments.{Elapses, Within}
+use Rattle.pg_disk.specs.Calls.{Changes, Reads}
+use Rattle.pg_disk.proofs.Runs.{started, goes_on, then_run}
+use Rattle.pg_gate.specs.Spans.{AsRead, IsCutFault}
+
+-- nothing was read yet
+pub no_reads : (tells : Option Account) → Changes tells tells (Reads 0)
+no_reads tells = record { kept = λ h. h; back = λ h. h; step = λ h. record { files = refl; told = refl; taken = omega arith } }
+
+-- more is read
+pub reads_then : (old mid new : Option Account) (n m : ℕ) → Changes old mid (Reads n) → Changes mid new (Reads m) → Changes old new (Reads (n + m))
+reads_then old mid new n m first second = record {
+  kept = λ h. second.kept (first.kept h);
+  back = λ h. first.back (second.back h);
+  step = λ h.
+      let a = first.step h in
+      let b = second.step (first.kept h) in
+      record { files = b.files ∙ a.files; told = b.told ∙ a.told; taken = omega (arith, a.taken, b.taken) };
+}
+
+-- what a crash leaves is what it left before
+pub reads_leave : (old new : Option Account) (n : ℕ) → Changes old new (Reads n) → (c : Files) (b : List ℕ) → Leaves new c b → Leaves old c b
+reads_leave old new n change c b left =
+    let h = change.back left.honest in
+    let a = change.step h in
+    record { honest = h; image = subst (λ m. IsImage m c) a.files left.image; told = left.told ∙ a.told }
+
+-- and what the file reads as is what it read as before
+pub as_read_before : (file : FileId) (old new : Option Account) (n : ℕ) (P : List ℕ → Type 0) → Changes old new (Reads n) → AsRead file new P → AsRead file old P
+as_read_before file old new n P change is = λ h s there. is (change.kept h) s (ap (λ m. get m file) (change.step h).files ∙ there)
+
+pub still_there : (file : FileId) (old new : Option Account) (n : ℕ) → Changes old new (Reads n) → (IsHonest old → IsFileThere file (account old).files) → IsHonest new → IsFileThere file (account new).files
+still_there file old new n change there h =
+    let h0 = change.back h in
+    let is = there h0 in
+    (is.0, ap (λ m. get m file) (change.step h0).files ∙ is.1)
+
+-- the moments of a run that reads
+pub run_reads : {D : Type 0} (moment : D → ℕ) (left_since : D → ℕ → Files → List ℕ → Type 0) (tells : D → Option Account) (old mid new : D) (n : ℕ) → Changes (tells old) (tells mid) (Reads n)
+    → Within moment left_since old mid (Leaves (tells old)) → Within moment left_since mid new (Leaves (tells mid)) → Within moment left_since old new (Leaves (tells old))
+run_reads moment left_since tells old mid new n change first second = then_run moment left_since old mid new (Leaves (tells old)) (Leaves (tells mid)) first second (reads_leave (tells old) (tells mid) n change)
+
+-- one call that reads is a run
+pub one_read : {D : Type 0} (moment : D → ℕ) (left_since : D → ℕ → Files → List ℕ → Type 0) (tells : D → Option Account) (old new : D) → ((c : Files) (b : List ℕ) → left_since old (moment old) c b → Leaves (tells old) c b)
+    → Elapses (moment old) (moment new) (left_since old) (left_since new) (Leaves (tells old)) → Within moment left_since old new (Leaves (tells old))
+one_read moment left_since tells old new law time = goes_on moment left_since old old new (Leaves (tells old)) _ (started moment left_since old (Leaves (tells old)) law) time (λ c b left. left)
+
+-- what is said of where a file is cut
+pub cut_weaker : (file : FileId) (P Q : ℕ → Type 0) (e : Fault) → ((at : ℕ) → P at → Q at) → IsCutFault file P e → IsCutFault file Q e
+cut_weaker file P Q Failed then is = tt
+cut_weaker file P Q (Damaged damage) then is = (is.0, is.1, then damage.at is.2)
+cut_weaker file P Q Spent then is = tt
+cut_weaker file P Q Memory then is = tt

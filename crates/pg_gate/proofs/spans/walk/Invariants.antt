@@ -1,0 +1,19 @@
+use Rattle.std.proofs.Common.{◌≡◌, ◌<◌, ◌-◌, ℕ, length}
+use Rattle.pg_disk.specs.Calls.{Changes, Reads}
+use Rattle.pg_disk.specs.Image.{Leaves}
+use Rattle.pg_disk.specs.Moments.{Within}
+use Rattle.pg_gate.specs.Spans.{AsRead, IsSoFar}
+use Rattle.pg_gate.proofs.spans.walk.Given as goal
+
+abbrev pub invariant-gates : goal.invariant-gates
+invariant-gates g l = record {
+  within : l.gate < l.end;
+  count : ℕ;
+  same : Changes (g.D.Disk.tells l.fn.disk) (g.D.Disk.tells l.disk) (Reads count);
+  run : Within g.D.Disk.moment g.D.Disk.left_since l.fn.disk l.disk (Leaves (g.D.Disk.tells l.fn.disk));
+  faults : g.D.Disk.faults l.disk ≡ g.D.Disk.faults l.fn.disk;
+  so_far : AsRead l.file (g.D.Disk.tells l.fn.disk) (λ bytes. l.end ≡ length bytes → IsSoFar bytes l.gate l.spans.items);
+}
+
+abbrev pub decreases-gates : goal.decreases-gates
+decreases-gates g l = l.end - l.gate

@@ -1,0 +1,101 @@
+// A gated file is read anew, as after a crash.
+ghost use Rattle.std.specs.Prelude.{◌≡◌, ◌≤◌, ◌↔◌, ℕ, [], length, slice_index, IsTrue, IfOk, OnOk, IfErr};
+ghost use Rattle.std.specs.FinMap.{get};
+ghost use Rattle.pg_disk.specs.Account.{account, IsHonest, IsQuiet};
+ghost use Rattle.pg_disk.specs.Calls.{Changes, Reads};
+ghost use Rattle.pg_disk.specs.Counts.{CountsDisk, CountsFault};
+ghost use Rattle.pg_disk.specs.Image.{IsFileThere, Leaves, LeavesAt};
+ghost use Rattle.pg_disk.specs.Moments.{Within, WithinFrom};
+ghost use Rattle.pg_gate.specs.Gated.{HasBatches, RestsAt, file_of};
+ghost use Rattle.pg_gate.specs.Spans.{AsRead, IsCut, IsCutFault, IsNotSpent, IsScanned};
+ghost use Rattle.pg_gate.specs.Spans.{ReadsAndChanges, StaysOrMends, KeepsAsRead, KeepsAtRest, IsShortOf, IsThereAtRest};
+
+use crate::gate::close;
+use crate::spans::walk;
+use crate::{Rest, Span};
+use pg_disk::{Disk, Failed, Fault, FileId};
+use std::alloc::Global;
+
+// Whether the first gate is open.
+fn begins_open<D: Disk>(disk: &mut D, file: FileId) -> Result<bool, Failed>
+    requires { IsHonest (D.tells disk.old) → IsFileThere file (account (D.tells disk.old)).files }
+    ensures first { IfOk result (λ opens. AsRead file (D.tells disk.old) (λ bytes. 1 ≤ length bytes → (IsTrue opens ↔ (slice_index bytes 0 ≡ 1)))) }
+    ensures same { (n : ℕ) × Changes (D.tells disk.old) (D.tells disk.new) (Reads n) }
+    ensures any_moment { Within D.moment D.left_since disk.old disk.new (Leaves (D.tells disk.old)) }
+    ensures cause { CountsDisk (D.faults disk.old) (D.faults disk.new) result }
+{
+    let mut gate = [0];
+    disk.read(file, 0, &mut gate)?;
+    Ok(gate[0] == 1)
+}
+
+// Closes the gate of a file of `end` bytes, at most one, that has none or an open one, and leaves any other as it is.
+fn mend<D: Disk>(disk: &mut D, file: FileId, end: u64) -> Result<(), Failed>
+    requires { IsHonest (D.tells disk.old) → IsShortOf end (get (account (D.tells disk.old)).files file) }
+    ensures rests { OnOk result (Changes (D.tells disk.old) (D.tells disk.new) (ReadsAndChanges file (λ _ t. RestsAt 0 [] t))) }
+    ensures stays { Changes (D.tells disk.old) (D.tells disk.new) (ReadsAndChanges file StaysOrMends) }
+    ensures any_moment { Within D.moment D.left_since disk.old disk.new
+        (LeavesAt file (HasBatches []) (D.tells disk.old)) }
+    ensures cause { CountsDisk (D.faults disk.old) (D.faults disk.new) result }
+{
+    if end == 1 && !begins_open(disk, file)? {
+        return Ok(());
+    }
+    close(file, disk)
+}
+
+// Reads and mends a file of which nothing is pending.
+fn scan_synced<D: Disk>(
+    alloc: Global,
+    disk: &mut D,
+    file: FileId,
+) -> Result<(Rest, Vec<Span>), Fault>
+    requires { IsHonest (D.tells disk.old) → IsThereAtRest (get (account (D.tells disk.old)).files file) }
+    ensures file { IfOk result (λ found. file_of found.0 ≡ file) }
+    ensures scanned { IfOk result (λ found. AsRead file (D.tells disk.old) (λ bytes.
+        IsScanned bytes found.0 found.1.items (get (account (D.tells disk.new)).files file))) }
+    ensures stays { Changes (D.tells disk.old) (D.tells disk.new) (ReadsAndChanges file StaysOrMends) }
+    ensures any_moment { Within D.moment D.left_since disk.old disk.new
+        (LeavesAt file
+        (KeepsAsRead (get (account (D.tells disk.old)).files file))
+        (D.tells disk.old)) }
+    ensures damaged { IfErr result (IsCutFault file (λ at. AsRead file (D.tells disk.old) (λ bytes. IsCut bytes at))) }
+    ensures only { IfErr result IsNotSpent }
+    ensures cause { CountsFault (D.faults disk.old) (D.faults disk.new) result }
+{
+    let end = disk.length(file)?;
+    if end <= 1 {
+        mend(disk, file, end)?;
+        return Ok((Rest { file, gate: 0 }, Vec::new(alloc)));
+    }
+    let (spans, gate) = walk(alloc, disk, file, end)?;
+    Ok((Rest { file, gate }, spans))
+}
+
+/// Reads a gated file anew: syncs it, mends it, and gives the file at rest with the places of the payloads of its
+/// counted batches, in their order. A file of no bytes gets a closed gate, and a file of one byte that is an open gate
+/// gets a closed one in its place. Nothing else is written. `Damaged` with the rule `Cut` and the gate's offset comes
+/// where an open gate has no whole batch behind it. The other errors are that the disk failed and that there was no
+/// memory.
+pub fn scan<D: Disk>(alloc: Global, disk: &mut D, file: FileId) -> Result<(Rest, Vec<Span>), Fault>
+    requires { IsHonest (D.tells disk.old) → IsFileThere file (account (D.tells disk.old)).files }
+    ensures file { IfOk result (λ found. file_of found.0 ≡ file) }
+    ensures scanned { IfOk result (λ found. AsRead file (D.tells disk.old) (λ bytes.
+        IsScanned bytes found.0 found.1.items (get (account (D.tells disk.new)).files file))) }
+    ensures stays { Changes (D.tells disk.old) (D.tells disk.new) (ReadsAndChanges file StaysOrMends) }
+    ensures any_moment { Within D.moment D.left_since disk.old disk.new
+        (LeavesAt file
+        (KeepsAtRest (get (account (D.tells disk.old)).files file))
+        (D.tells disk.old)) }
+    ensures once_synced { OnOk result (WithinFrom D.moment D.left_since disk.old disk.new
+        (LeavesAt file
+        (KeepsAsRead (get (account (D.tells disk.old)).files file))
+        (D.tells disk.old))) }
+
+    ensures damaged { IfErr result (IsCutFault file (λ at. AsRead file (D.tells disk.old) (λ bytes. IsCut bytes at))) }
+    ensures only { IfErr result IsNotSpent }
+    ensures cause { CountsFault (D.faults disk.old) (D.faults disk.new) result }
+{
+    disk.sync(file)?;
+    scan_synced(alloc, disk, file)
+}

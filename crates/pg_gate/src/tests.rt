@@ -1,0 +1,122 @@
+ghost use Rattle.std.specs.Prelude.{◌≡◌, None, OnOk};
+ghost use Rattle.std.specs.FinMap.{get};
+ghost use Rattle.pg_disk.specs.Account.{account, IsHonest};
+ghost use Rattle.pg_disk.specs.Image.{IsFileThere};
+
+use super::*;
+use pg_disk::{Damage, Disk, Failed, Fault, FileId, Kind, MemSite, Rule};
+use std::test::Fail;
+
+const PAGE: FileId = FileId {
+    kind: Kind::Page,
+    owner: 3,
+    number: 1,
+};
+
+const TWO: &[u8] = b"\x01\0\0\0\0\0\0\0\x02hi\x01\0\0\0\0\0\0\0\0\0";
+
+// The bytes of a file, the places of its payloads or the offset of the gate that is cut, and the bytes after a scan.
+type Case<'a> = (&'a [u8], Result<&'a [Span], u64>, &'a [u8]);
+
+const CASES: [Case<'static>; 13] = [
+    (b"", Ok(&[]), b"\0"),
+    (b"\0", Ok(&[]), b"\0"),
+    (b"\x01", Ok(&[]), b"\0"),
+    (b"\x07", Ok(&[]), b"\x07"),
+    (
+        b"\0\0\0\0\0\0\0\0\x01x\0",
+        Ok(&[]),
+        b"\0\0\0\0\0\0\0\0\x01x\0",
+    ),
+    (
+        b"\x07\0\0\0\0\0\0\0\x01x\0",
+        Ok(&[]),
+        b"\x07\0\0\0\0\0\0\0\x01x\0",
+    ),
+    (
+        b"\x01\0\0\0\0\0\0\0\x01x\x07\x01\0",
+        Ok(&[Span { at: 9, length: 1 }]),
+        b"\x01\0\0\0\0\0\0\0\x01x\x07\x01\0",
+    ),
+    (
+        TWO,
+        Ok(&[Span { at: 9, length: 2 }, Span { at: 20, length: 0 }]),
+        TWO,
+    ),
+    (b"\x01\0", Err(0), b"\x01\0"),
+    (b"\x01\0\0\0\0\0\0\0\0", Err(0), b"\x01\0\0\0\0\0\0\0\0"),
+    (
+        b"\x01\0\0\0\0\0\0\0\x02hi",
+        Err(0),
+        b"\x01\0\0\0\0\0\0\0\x02hi",
+    ),
+    (
+        b"\x01\xff\xff\xff\xff\xff\xff\xff\xffhi\0",
+        Err(0),
+        b"\x01\xff\xff\xff\xff\xff\xff\xff\xffhi\0",
+    ),
+    (
+        b"\x01\0\0\0\0\0\0\0\x02hi\x01\0\0",
+        Err(11),
+        b"\x01\0\0\0\0\0\0\0\x02hi\x01\0\0",
+    ),
+];
+
+// Makes the file, with these bytes.
+fn make<D: Disk>(disk: &mut D, bytes: &[u8]) -> Result<(), Failed>
+    requires { IsHonest (D.tells disk.old) → get (account (D.tells disk.old)).files PAGE ≡ None }
+    ensures { OnOk result (IsHonest (D.tells disk.new) → IsFileThere PAGE (account (D.tells disk.new)).files) }
+{
+    disk.create(PAGE)?;
+    disk.write(PAGE, 0, bytes)?;
+    disk.sync(PAGE)
+}
+
+// Whether these places were answered, or that the batch at this offset is cut.
+fn is_as(got: Result<Vec<Span>, Fault>, want: Result<&[Span], u64>) -> bool {
+    match (got, want) {
+        (Ok(spans), Ok(want)) => spans.as_slice() == want,
+        (Err(Fault::Damaged(damage)), Err(at)) => {
+            damage
+                == Damage {
+                    file: PAGE,
+                    at,
+                    rule: Rule::Cut,
+                }
+        }
+        _ => false,
+    }
+}
+
+#[test]
+fn reads_files(rt: HostRuntime) -> Result<(), Fail> {
+    for (bytes, want, left) in CASES {
+        let mut site = MemSite::new(rt.alloc());
+        make(&mut site, bytes)?;
+        let peeked = peek(rt.alloc(), &mut site, PAGE);
+        assert!(rt; is_as(peeked, want), "peek of {bytes:?}");
+        assert_eq!(rt; site.bytes(PAGE), Some(bytes));
+        let scanned = scan(rt.alloc(), &mut site, PAGE).map(|(_, spans)| spans);
+        assert!(rt; is_as(scanned, want), "scan of {bytes:?}");
+        assert_eq!(rt; site.bytes(PAGE), Some(left));
+    }
+    Ok(())
+}
+
+#[test]
+fn reads_payloads(rt: HostRuntime) -> Result<(), Fail> {
+    let mut site = MemSite::new(rt.alloc());
+    make(&mut site, TWO)?;
+    let octets = read_span(rt.alloc(), &mut site, PAGE, Span { at: 9, length: 2 })?;
+    assert_eq!(rt; octets.as_slice(), b"hi".as_slice());
+    let cut = read_span(rt.alloc(), &mut site, PAGE, Span { at: 20, length: 2 }).map(|_| ());
+    assert_eq!(rt;
+        cut,
+        Err(Fault::Damaged(Damage {
+            file: PAGE,
+            at: 20,
+            rule: Rule::Cut
+        }))
+    );
+    Ok(())
+}
