@@ -1,16 +1,8 @@
 //! The broker as a program: the words that it is called with, a directory, standard input and standard output.
 #![tactic(auto)]
 
-mod dir_site;
-mod file_name;
-mod folder;
-mod in_source;
-mod standard;
-
-use dir_site::DirSite;
-use in_source::InSource;
+use pg_dir::{DirSite, InSource, Standard};
 use pg_run::pagebroker;
-use standard::Standard;
 use std::env;
 use std::io::{self, ErrorKind, Write};
 use std::process::ExitCode;

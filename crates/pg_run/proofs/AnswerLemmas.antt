@@ -4,7 +4,6 @@ use Rattle.std.proofs.lemmas.List.{append-nil, take_all}
 use Rattle.std.specs.Prelude.{IsErr, IsErrOf}
 use Rattle.std.specs.FinMap.{get}
 use Rattle.pg_disk.specs.declared.fault.Fault.{Fault}
-use Rattle.pg_disk.specs.declared.fault.Fault.TheVariants.{Memory}
 use Rattle.pg_disk.specs.declared.fault.SiteFault.{SiteFault}
 use Rattle.pg_disk.specs.declared.fault.SiteFault.TheVariants.{Disk, Sink}
 use Rattle.pg_disk.specs.Account.{Account, account, IsHonest}
@@ -209,14 +208,14 @@ module _ {D : Type 0} (moment : D → ℕ) (left_since : D → ℕ → Files →
 
   -- what an execution that gave up leaves
   pub gave_up : (engine : Engine) → ((c : Files) (b : List ℕ) → left_since old (moment old) c b → Leaves (tells old) c b) → state_of engine ≡ first → Owns engine (account (tells old)).files
-      → (mid : D) (result : Result (Engine × Reply) Fault) → (IsErrOf result Memory × (mid ≡ old)) ⊎ ((item : Option Command) × ReadsAs line item × Executes moment left_since tells first item old mid result)
+      → (mid : D) (result : Result (Engine × Reply) Fault) → (IsErr result × (mid ≡ old)) ⊎ ((item : Option Command) × ReadsAs line item × Executes moment left_since tells first item old mid result)
       → (serves : Serves LeavesBetween moment left_since tells first (line ∷ []) old mid) × (serves.told.part ≡ [])
   gave_up engine law stands owns mid result outcome = elim outcome [
     | inl none ↦ subst (λ d. (serves : Serves LeavesBetween moment left_since tells first (line ∷ []) old d) × (serves.told.part ≡ [])) (sym none.1) (unanswered engine law stands owns)
     | inr some ↦ interrupted some.0 some.1 some.2.reply some.2.next some.2.step mid some.2.moments some.2.told some.2.kept
   ]
 
-  no_err : (result : Result (Engine × Reply) Fault) (done : Engine × Reply) → result ≡ Ok done → IsErrOf result Memory → ⊥
+  no_err : (result : Result (Engine × Reply) Fault) (done : Engine × Reply) → result ≡ Ok done → IsErr result → ⊥
   no_err result done ok err = cc
 
   abbrev pub done_of : Engine → Reply → Result (Engine × Reply) Fault
@@ -232,7 +231,7 @@ module _ {D : Type 0} (moment : D → ℕ) (left_since : D → ℕ → Files →
     pub told : (account (tells mid)).told ≡ (account (tells old)).told
     pub stands : StandsAt engine next (tells mid)
 
-  pub executed : (mid : D) (engine : Engine) (reply : Reply) → (IsErrOf (done_of engine reply) Memory × (mid ≡ old)) ⊎ ((item : Option Command) × ReadsAs line item × Executes moment left_since tells first item old mid (Ok (engine, reply)))
+  pub executed : (mid : D) (engine : Engine) (reply : Reply) → (IsErr (done_of engine reply) × (mid ≡ old)) ⊎ ((item : Option Command) × ReadsAs line item × Executes moment left_since tells first item old mid (Ok (engine, reply)))
       → Executed mid engine reply
   executed mid engine reply outcome = elim outcome [
     | inl none ↦ absurd (no_err _ (engine, reply) refl none.0)

@@ -1,9 +1,10 @@
 -- The bytes of entries, one entry at a time.
 use Rattle.std.proofs.Common.{◌≡◌, ℕ, ◌+◌, ◌<◌, ◌≤◌, List, ◌∷◌, ◌++◌, length, get_or, drop, Result, OnOk, ap, sym, subst, ◌∙◌}
+use Rattle.std.specs.Int.{to_be_bytes, w32}
 use Rattle.std.proofs.lemmas.List.{drop_more, drop_all, append-nil, append_assoc}
 use Rattle.std.proofs.lemmas.Result.{on_ok_weaker}
 use Rattle.pg_run.specs.declared.records.Entry.{Entry}
-use Rattle.pg_run.specs.Entries.{entry_bytes, batch_bytes, HasFields, HaveFields}
+use Rattle.pg_run.specs.Entries.{entry_bytes, batch_bytes, ids_bytes, HasFields, HaveFields}
 
 -- the entries from an index on begin with the one there
 next_entry : (entries : List Entry) (i : ℕ) (entry : Entry) → i < length entries → entry ≡ get_or entries i entry → drop i entries ≡ entry ∷ drop (i + 1) entries
@@ -35,3 +36,16 @@ appended_four start first second third all a b c d one two three four =
 pub put_four : {T E : Type 0} (r : Result T E) (start first second third all a b c d : List ℕ) → first ≡ start ++ a → second ≡ first ++ b → third ≡ second ++ c → OnOk r (all ≡ third ++ d) → OnOk r (all ≡ start ++ (a ++ (b ++ (c ++ d))))
 put_four r start first second third all a b c d one two three last =
     on_ok_weaker r (λ four. appended_four start first second third all a b c d one two three four) last
+
+-- one more id is spelled
+pub spell_next_id : (ids : List ℕ) (i : ℕ) (start before after : List ℕ) → i < length ids → before ++ ids_bytes (drop i ids) ≡ start ++ ids_bytes ids → after ≡ before ++ to_be_bytes w32 (get_or ids i 0) → after ++ ids_bytes (drop (i + 1) ids) ≡ start ++ ids_bytes ids
+spell_next_id ids i start before after inside so_far more =
+    ap (λ bytes. bytes ++ ids_bytes (drop (i + 1) ids)) more
+    ∙ append_assoc before (to_be_bytes w32 (get_or ids i 0)) (ids_bytes (drop (i + 1) ids))
+    ∙ sym (ap (λ rest. before ++ ids_bytes rest) (drop_more ids i 0 inside))
+    ∙ so_far
+
+-- no id is left to be spelled
+pub spelled_ids : (ids : List ℕ) (i : ℕ) (start bytes : List ℕ) → length ids ≤ i → bytes ++ ids_bytes (drop i ids) ≡ start ++ ids_bytes ids → bytes ≡ start ++ ids_bytes ids
+spelled_ids ids i start bytes past so_far =
+    sym (append-nil bytes) ∙ sym (ap (λ (rest : List ℕ). bytes ++ ids_bytes rest) (drop_all i ids past)) ∙ so_far

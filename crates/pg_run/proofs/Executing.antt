@@ -2,6 +2,7 @@
 use Rattle.std.proofs.Common.{◌≡◌, ◌≢◌, inl, inr, ⊎_elim, ℕ, List, [], ◌∷◌, ◌++◌, Option, Some, None, Result, Ok, Err, refl, sym, ◌∙◌, ap, subst}
 use Rattle.std.specs.Prelude.{IfOk, IsErr}
 use Rattle.std.specs.FinMap.{FinMap, get}
+use Rattle.std.specs.Option.{option_and_then}
 use Rattle.pg_disk.specs.declared.fault.Fault.{Fault}
 use Rattle.pg_disk.specs.declared.file_id.FileId.{FileId}
 use Rattle.pg_disk.specs.Account.{FileState, Account, account, IsHonest}
@@ -18,11 +19,14 @@ use Rattle.pg_run.specs.declared.msg.Refusal.{Refusal}
 use Rattle.pg_run.specs.declared.msg.Reply.{Reply}
 use Rattle.pg_run.specs.declared.msg.Reply.TheVariants.{No}
 use Rattle.pg_run.specs.declared.records.Entry.{Entry}
+use Rattle.pg_run.specs.declared.state.Outcome.{Outcome}
+use Rattle.pg_run.specs.declared.state.Outcome.TheVariants.{Unchanged}
 use Rattle.pg_run.specs.Broker.{Durable, Broker, fresh, Step}
 use Rattle.pg_run.specs.Denotation.{journal, HasLog, Denotes}
-use Rattle.pg_run.specs.Entries.{SpellsBatch}
+use Rattle.pg_run.specs.Entries.{batch_bytes, HasFields, SpellsBatch}
 use Rattle.pg_run.specs.Executed.{state_of, Owns, LeavesEither, Executes}
-use Rattle.pg_run.specs.Fold.{fold_entries}
+use Rattle.pg_run.specs.Fold.{effect, fold_entries}
+use Rattle.pg_run.specs.Outcomes.{IsOutcome}
 use Rattle.pg_run.proofs.JournalLemmas.{spelled_push, folded_push}
 
 -- of a file that isn't there a crash leaves none
@@ -51,6 +55,13 @@ owned_denote engine files image owns is = record {
   folded = owns.folded;
 }
 
+-- an entry alone is a batch, and gives what its effect gives
+pub spells_one : (payload : List ℕ) (entry : Entry) → payload ≡ batch_bytes (entry ∷ []) → HasFields entry → SpellsBatch payload (entry ∷ [])
+spells_one payload entry is fields = record { bytes = is; some = λ e. cc; fields = (fields, tt) }
+
+pub gives_one : (d e : Durable) (entry : Entry) → effect d entry ≡ Some e → fold_entries d (entry ∷ []) ≡ Some e
+gives_one d e entry is = ap (λ o. option_and_then (λ x. fold_entries x []) o) is
+
 module _ {D : Type 0} (moment : D → ℕ) (left_since : D → ℕ → Files → List ℕ → Type 0) (tells : D → Option Account) (old : D) (law : (c : Files) (b : List ℕ) → left_since old (moment old) c b → Leaves (tells old) c b)
     (engine : Engine) (owns : Owns engine (account (tells old)).files) where
   -- before anything is done
@@ -71,9 +82,20 @@ module _ {D : Type 0} (moment : D → ℕ) (left_since : D → ℕ → Files →
     ok = (refl, record { kept = honest; stands = refl; owns = owns });
   }
 
-  -- so does a command that gives up before it writes
-  pub given_up : IsHonest (tells old) → (item : Option Command) (reply : Reply) (next : Broker) → Step (state_of engine) item reply next → (result : Result (Engine × Reply) Fault) → IsErr result → Executes moment left_since tells (state_of engine) item old old result
-  given_up honest item reply next step result failed = record { reply = reply; next = next; step = step; moments = nothing_left next.durable; kept = honest; told = refl; ok = not_ok _ result failed }
+  -- so does a command that changes nothing
+  pub unchanged : IsHonest (tells old) → (command : Command) (outcome : Outcome) (state : Broker) (reply : Reply) → outcome ≡ Unchanged state reply → IsOutcome (state_of engine) command outcome
+      → Executes moment left_since tells (state_of engine) (Some command) old old (Ok (record { journal = engine.journal; state = state }, reply))
+  unchanged honest command outcome state reply is what =
+      let now : IsOutcome (state_of engine) command (Unchanged state reply) = subst (λ o. IsOutcome (state_of engine) command o) is what in
+      record {
+        reply = reply;
+        next = state_of engine;
+        step = now.1;
+        moments = nothing_left (state_of engine).durable;
+        kept = honest;
+        told = refl;
+        ok = (refl, record { kept = honest; stands = now.0; owns = subst (λ (s : Broker). Owns (record { journal = engine.journal; state = s }) (account (tells old)).files) (sym now.0) owns });
+      }
 
   -- a batch that is appended
   module _ (payload : List ℕ) (more : List Entry) (next : Broker) (spells : SpellsBatch payload more) (folds : fold_entries (state_of engine).durable more ≡ Some next.durable) where

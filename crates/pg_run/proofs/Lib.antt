@@ -1,4 +1,3 @@
-pub mod AddressLemmas
 pub mod AnswerLemmas
 pub mod BatchLemmas
 pub mod CommandLemmas
@@ -8,10 +7,12 @@ mod Examples
 pub mod Executing
 pub mod JournalLemmas
 pub mod LineLemmas
+pub mod MessageLemmas
 pub mod NumeralLemmas
 pub mod OpeningLemmas
 pub mod ReadSoFar
 pub mod RouteLemmas
+pub mod StateLemmas
 pub mod RunLemmas
 pub mod Running
 pub mod WordLemmas

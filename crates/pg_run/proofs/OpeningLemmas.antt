@@ -18,7 +18,7 @@ use Rattle.pg_gate.specs.Gated.{StandsFor, HasNone, HasOldOrNew, file_of}
 use Rattle.pg_run.specs.declared.engine.Engine.{Engine}
 use Rattle.pg_run.specs.declared.records.Entry.{Entry}
 use Rattle.pg_run.specs.declared.records.Entry.TheVariants.{Epoch}
-use Rattle.pg_run.specs.Broker.{Durable, fresh, opened_from}
+use Rattle.pg_run.specs.Broker.{Durable, fresh, next_epoch, opened_from}
 use Rattle.pg_run.specs.Denotation.{journal, HasLog, Denotes}
 use Rattle.pg_run.specs.Entries.{batch_bytes, SpellBatches}
 use Rattle.pg_run.specs.Executed.{LeavesEither, StandsAt}
@@ -61,7 +61,7 @@ module _ (next : Durable) (old : Option Account) (none : HasNoFile (account old)
 module _ (old mid : Option Account) (none : HasNoFile (account old).files) (rest : Rest) (name : file_of rest ≡ journal) (payload : List ℕ) (is : payload ≡ batch_bytes first)
     (laid : Changes old mid (ChangesFile journal (λ _ s. StandsFor rest [] s))) where
   sealing_left : (c : Files) (b : List ℕ)
-      → LeavesAt journal (λ left. (batches : List (List ℕ)) → StandsFor rest batches (get (account mid).files journal) → HasOldOrNew batches payload left) mid c b → LeavesEither fresh (opened_from fresh).durable old c b
+      → LeavesAt journal (λ left. (batches : List (List ℕ)) → StandsFor rest batches (get (account mid).files journal) → HasOldOrNew batches payload left) mid c b → LeavesEither fresh (next_epoch fresh) old c b
   sealing_left c b left =
       let honest = laid.back left.honest in
       let change = laid.step honest in
@@ -75,14 +75,14 @@ module _ (old mid : Option Account) (none : HasNoFile (account old).files) (rest
       }
 
   pub appending_left : (c : Files) (b : List ℕ)
-      → LeavesAt (file_of rest) (λ left. (batches : List (List ℕ)) → StandsFor rest batches (get (account mid).files (file_of rest)) → HasOldOrNew batches payload left) mid c b → LeavesEither fresh (opened_from fresh).durable old c b
+      → LeavesAt (file_of rest) (λ left. (batches : List (List ℕ)) → StandsFor rest batches (get (account mid).files (file_of rest)) → HasOldOrNew batches payload left) mid c b → LeavesEither fresh (next_epoch fresh) old c b
   appending_left c b left = sealing_left c b (subst (λ id. LeavesAt id (λ l. (batches : List (List ℕ)) → StandsFor rest batches (get (account mid).files id) → HasOldOrNew batches payload l) mid c b) name left)
 
   -- once it is sealed
-  pub begun : IsHonest old → (new : Option Account) (next : Rest) → file_of next ≡ file_of rest
+  pub begun : IsHonest old → (ids : ℕ) (new : Option Account) (next : Rest) → file_of next ≡ file_of rest
       → Changes mid new (ChangesFile (file_of rest) (λ s t. (batches : List (List ℕ)) → StandsFor rest batches s → StandsFor next (batches ++ (payload ∷ [])) t))
-      → StandsAt (record { journal = next; epoch = 1; routes = [] }) (opened_from fresh) new
-  begun honest new next same sealed =
+      → StandsAt (record { journal = next; state = opened_from ids fresh }) (opened_from ids fresh) new
+  begun honest ids new next same sealed =
       let change = laid.step honest in
       let changes = (subst (λ id. Changes mid new (ChangesFile id (λ s t. (batches : List (List ℕ)) → StandsFor rest batches s → StandsFor next (batches ++ (payload ∷ [])) t))) name sealed) in
       let last = changes.step (laid.kept honest) in
@@ -107,8 +107,8 @@ module _ (old mid : Option Account) (none : HasNoFile (account old).files) (rest
   pub begins : IsHonest old → (new : Option Account) (result : Result Rest Fault) → IfOk result (λ next. file_of next ≡ file_of rest)
       → IfOk result (λ next. Changes mid new (ChangesFile (file_of rest) (λ s t. (batches : List (List ℕ)) → StandsFor rest batches s → StandsFor next (batches ++ (payload ∷ [])) t)))
       → OnErr result (Changes mid new (ChangesFile (file_of rest) (λ _ _. Unit {0})))
-      → (IsHonest new × ((account new).told ≡ (account old).told)) × IfOk result (λ next. StandsAt (record { journal = next; epoch = 1; routes = [] }) (opened_from fresh) new)
-  begins honest new (Ok next) same sealed failed = (kept_by new _ honest sealed, begun honest new next same sealed)
+      → (IsHonest new × ((account new).told ≡ (account old).told)) × IfOk result (λ next. (ids : ℕ) → StandsAt (record { journal = next; state = opened_from ids fresh }) (opened_from ids fresh) new)
+  begins honest new (Ok next) same sealed failed = (kept_by new _ honest sealed, λ ids. begun honest ids new next same sealed)
   begins honest new (Err fault) same sealed failed = (kept_by new _ honest failed, tt)
 
 -- where the listing is empty no file is there
@@ -137,12 +137,12 @@ either_from : (a b : Durable) (old mid : Option Account) → Changes old mid (Re
 either_from a b old mid same c t left = record { honest = same.back left.honest; nothing = left.nothing ∙ (same.step (same.back left.honest)).told; denoted = left.denoted }
 
 -- the listing, and then the journal
-pub opens : {D : Type 0} (moment : D → ℕ) (left_since : D → ℕ → Files → List ℕ → Type 0) (tells : D → Option Account) (old mid new : D) → IsHonest (tells old) → HasNoFile (account (tells old)).files
+pub opens : {D : Type 0} (ids : ℕ) (moment : D → ℕ) (left_since : D → ℕ → Files → List ℕ → Type 0) (tells : D → Option Account) (old mid new : D) → IsHonest (tells old) → HasNoFile (account (tells old)).files
     → Within moment left_since old mid (Leaves (tells old)) → Changes (tells old) (tells mid) (Reads 0) → (begun : Result Rest Fault) → Begins moment left_since tells mid new begun
-    → (result : Result Engine Fault) → IfOk result (λ engine. StandsAt engine (opened_from fresh) (tells new)) → Opens moment left_since tells old new result
-opens moment left_since tells old mid new honest none listing same begun begins result ok = record {
-  moments = then_run moment left_since old mid new _ _ (weaker moment left_since old mid _ _ listing (nothing_left (opened_from fresh).durable (tells old) none)) begins.moments
-      (either_from fresh (opened_from fresh).durable (tells old) (tells mid) same);
+    → (result : Result Engine Fault) → IfOk result (λ engine. StandsAt engine (opened_from ids fresh) (tells new)) → Opens ids moment left_since tells old new result
+opens ids moment left_since tells old mid new honest none listing same begun begins result ok = record {
+  moments = then_run moment left_since old mid new _ _ (weaker moment left_since old mid _ _ listing (nothing_left (next_epoch fresh) (tells old) none)) begins.moments
+      (either_from fresh (next_epoch fresh) (tells old) (tells mid) same);
   kept = begins.kept;
   told = begins.told ∙ (same.step honest).told;
   ok = ok;

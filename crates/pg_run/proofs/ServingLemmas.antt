@@ -1,6 +1,6 @@
 -- A run that begins with opening.
 use Rattle.pg_disk.specs.Counts.{FaultCounts}
-use Rattle.std.proofs.Common.{◌≡◌, inl, inr, ⊎_elim, ℕ, List, [], ◌∷◌, ◌++◌, length, take, Option, Some, None, Ok, Err, refl, sym, ◌∙◌, ap, subst, arith, length-append, ◌≤◌, ◌≢◌, ◌<◌, ◌+◌}
+use Rattle.std.proofs.Common.{◌≡◌, inl, inr, ⊎_elim, ℕ, List, [], ◌∷◌, ◌++◌, length, take, Option, Some, None, Ok, Err, refl, sym, ◌∙◌, ap, subst, arith, length-append}
 use Rattle.std.proofs.lemmas.List.{append-nil, take_all}
 use Rattle.std.specs.Option.{option_map}
 use Rattle.std.specs.FinMap.{FinMap, get}
@@ -65,7 +65,7 @@ running_left durable first replies states entry mid honest same image told left 
   moment = inr (subst (λ (before : List ℕ). IsBetween first replies states before image told) same left.between);
 }
 
-module _ {D : Type 0} (moment : D → ℕ) (left_since : D → ℕ → Files → List ℕ → Type 0) (tells : D → Option Account) (old : D) (unopened : Type 0) where
+module _ {D : Type 0} (moment : D → ℕ) (left_since : D → ℕ → Files → List ℕ → Type 0) (tells : D → Option Account) (old : D) (unopened : Type 0) (ids : ℕ) where
   -- the moments of opening come before those of the run
   opened_replies : (first : Broker) (whole : List (List ℕ)) (behind : List ℕ) (rest_old rest_new : Option (List ℕ)) (mid new : D) (status : ℕ) → IsHonest (tells old) → Within moment left_since old mid (LeavesEither fresh first.durable (tells old))
       → (account (tells mid)).told ≡ (account (tells old)).told → Replies LeavesBetween ⊥ moment left_since tells first whole behind rest_old rest_new mid new status
@@ -96,9 +96,9 @@ module _ {D : Type 0} (moment : D → ℕ) (left_since : D → ℕ → Files →
     full = λ is. ⊎_elim (λ none. absurd none) (λ full. inr full) (r.full is);
   }
 
-  pub opened_ran : (engine : Engine) (limit : ℕ) (rest_old rest_new : Option (List ℕ)) (mid new : D) (status : ℕ) → (IsHonest (tells old) → HasNoFile (account (tells old)).files → Opens moment left_since tells old mid (Ok engine))
+  pub opened_ran : (engine : Engine) (limit : ℕ) (rest_old rest_new : Option (List ℕ)) (mid new : D) (status : ℕ) → (IsHonest (tells old) → HasNoFile (account (tells old)).files → Opens ids moment left_since tells old mid (Ok engine))
       → Ran LeavesBetween ⊥ (IsHonest (tells mid)) moment left_since tells (state_of engine) limit rest_old rest_new mid new status
-      → Ran (LeavesRun fresh) unopened (IsHonest (tells old) × HasNoFile (account (tells old)).files) moment left_since tells (opened_from fresh) limit rest_old rest_new old new status
+      → Ran (LeavesRun fresh) unopened (IsHonest (tells old) × HasNoFile (account (tells old)).files) moment left_since tells (opened_from ids fresh) limit rest_old rest_new old new status
   opened_ran engine limit rest_old rest_new mid new status opens ran = record {
     read = ran.read;
     whole = ran.whole;
@@ -107,7 +107,7 @@ module _ {D : Type 0} (moment : D → ℕ) (left_since : D → ℕ → Files →
     cut = ran.cut;
     replies = λ asks.
         let o = opens asks.0 asks.1 in
-        opened_replies (opened_from fresh) ran.whole ran.behind rest_old rest_new mid new status asks.0 o.moments o.told
+        opened_replies (opened_from ids fresh) ran.whole ran.behind rest_old rest_new mid new status asks.0 o.moments o.told
         (subst (λ (first : Broker). Replies LeavesBetween ⊥ moment left_since tells first ran.whole ran.behind rest_old rest_new mid new status) o.ok.stands (ran.replies o.kept));
   }
 
@@ -128,8 +128,8 @@ module _ {D : Type 0} (moment : D → ℕ) (left_since : D → ℕ → Files →
 
   -- the broker wasn't opened
   pub unopened_ran : (limit : ℕ) (rest : Option (List ℕ)) (new : D) (cause : Fault) → (cause ≡ fault.Spent → unopened)
-      → (IsHonest (tells old) → HasNoFile (account (tells old)).files → Opens moment left_since tells old new (Err cause))
-      → Ran (LeavesRun fresh) unopened (IsHonest (tells old) × HasNoFile (account (tells old)).files) moment left_since tells (opened_from fresh) limit rest rest old new (status_of_fault cause)
+      → (IsHonest (tells old) → HasNoFile (account (tells old)).files → Opens ids moment left_since tells old new (Err cause))
+      → Ran (LeavesRun fresh) unopened (IsHonest (tells old) × HasNoFile (account (tells old)).files) moment left_since tells (opened_from ids fresh) limit rest rest old new (status_of_fault cause)
   unopened_ran limit rest new cause spent opens = record {
     read = [];
     whole = [];
@@ -152,7 +152,7 @@ module _ {D : Type 0} (moment : D → ℕ) (left_since : D → ℕ → Files →
             states = [];
             read = tt;
             run = tt;
-            moments = weaker moment left_since old new _ _ o.moments (opening_left fresh (opened_from fresh) [] [] (tells old));
+            moments = weaker moment left_since old new _ _ o.moments (opening_left fresh (opened_from ids fresh) [] [] (tells old));
             kept = o.kept;
             n = 0;
             last = inl refl;

@@ -1,8 +1,9 @@
 -- The first word of a line: where it ends, and that there is one way to read it.
-use Rattle.std.proofs.Common.{◌≡◌, ◌≢◌, ℕ, ◌+◌, ◌<◌, ◌≤◌, ◌^◌, suc, Bool, true, false, not, cond, eqb, ltb, List, [], ◌∷◌, ◌++◌, length, take, drop, Option, Some, None, unwrap_or, MatchOption, Bor, refl, ap, sym, subst, ◌∙◌, arith}
+use Rattle.std.proofs.Common.{◌≡◌, ◌≢◌, ℕ, ◌+◌, ◌<◌, ◌≤◌, ◌^◌, suc, Bool, true, false, not, cond, eqb, ltb, List, [], ◌∷◌, ◌++◌, length, take, drop, Option, Some, None, unwrap_or, MatchOption, Result, Ok, Err, MatchResult, Bor, refl, ap, sym, subst, ◌∙◌, arith}
 use Rattle.std.specs.Prelude.{All}
 use Rattle.std.specs.List.{position_or_len, position}
 use Rattle.std.specs.Fmt.{decimal}
+use Rattle.std.specs.Result.{result_ok}
 use Rattle.std.specs.Str.{IsUtf8}
 use Rattle.std.proofs.lemmas.Str.{IsUtf8-from_ascii}
 use Rattle.std.proofs.lemmas.Str.Ascii.{IsAscii-from_all}
@@ -118,3 +119,8 @@ name_byte_is_ascii byte is = omega arith
 -- a name is a text
 pub IsUtf8-name : (name : List ℕ) → IsName name → IsUtf8 name
 IsUtf8-name name is_name = IsUtf8-from_ascii name (IsAscii-from_all name (All-weaker IsNameByte (λ byte. byte < 128) name_byte_is_ascii name is_name.each))
+
+-- a name read as a text is that name
+pub name_read : {E : Type 0} (line : List ℕ) (Q : E → Type 0) (r : Result (Bor (List ℕ)) E) → IsName line → MatchResult r (λ s. (s.now ≡ line) × IsUtf8 line) (λ e. ¬ IsUtf8 line × Q e) → MatchOption (result_ok r) (¬ IsName line) (λ name. (name.now ≡ line) × IsName line)
+name_read line Q (Ok s) is_name cases = (cases.0, is_name)
+name_read line Q (Err e) is_name cases = absurd (cases.0 (IsUtf8-name line is_name))

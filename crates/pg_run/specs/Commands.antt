@@ -2,7 +2,7 @@
 use Rattle.std.specs.Prelude.{◌≡◌, ◌⊎◌, ◌≤◌, ℕ, List, [], ◌∷◌, ◌++◌, length, slice_index, All, Option, Some, None, codes}
 use Rattle.std.specs.Fmt.{decimal}
 use Rattle.pg_run.specs.declared.msg.Command.{Command}
-use Rattle.pg_run.specs.declared.msg.Command.TheVariants.{Address}
+use Rattle.pg_run.specs.declared.msg.Command.TheVariants.{Address, Queue, Send, Count}
 use Rattle.pg_run.specs.Lines.{longest_line}
 
 abbrev pub IsBetween : ℕ → ℕ → ℕ → Type 0
@@ -34,12 +34,34 @@ pub record AreSettings (max page ahead dup : ℕ) : Type 0 where
 abbrev pub address_line : List ℕ → ℕ → ℕ → ℕ → ℕ → List ℕ
 address_line name max page ahead dup = codes "address " ++ (name ++ (codes " max " ++ (decimal max ++ (codes " page " ++ (decimal page ++ (codes " ahead " ++ (decimal ahead ++ (codes " dup " ++ decimal dup))))))))
 
+-- `queue NAME on NAME`
+abbrev pub queue_line : List ℕ → List ℕ → List ℕ
+queue_line name address = codes "queue " ++ (name ++ (codes " on " ++ address))
+
+-- `send NAME body TEXT`, where the text is all that is left of the line
+abbrev pub send_line : List ℕ → List ℕ → List ℕ
+send_line address body = codes "send " ++ (address ++ (codes " body " ++ body))
+
+-- `count NAME`
+abbrev pub count_line : List ℕ → List ℕ
+count_line queue = codes "count " ++ queue
+
+-- the body of a message has at most so many bytes
+abbrev pub longest_body : ℕ
+longest_body = 1000
+
 -- what the command holds is in its range
 abbrev pub IsInRange : Command → Type 0
 IsInRange (Address name max page ahead dup) = IsName name × AreSettings max page ahead dup
+IsInRange (Queue name address) = IsName name × IsName address
+IsInRange (Send address body) = IsName address × (length body ≤ longest_body)
+IsInRange (Count queue) = IsName queue
 
 abbrev pub line_of : Command → List ℕ
 line_of (Address name max page ahead dup) = address_line name max page ahead dup
+line_of (Queue name address) = queue_line name address
+line_of (Send address body) = send_line address body
+line_of (Count queue) = count_line queue
 
 -- the line spells the command
 pub record Spells (line : List ℕ) (command : Command) : Type 0 where

@@ -1,25 +1,53 @@
 -- How a batch of the journal spells its entries.
-use Rattle.std.specs.Prelude.{◌≡◌, ◌≢◌, ◌<◌, ◌^◌, ℕ, List, [], ◌∷◌, ◌++◌, length}
-use Rattle.std.specs.Int.{to_be_bytes, w32, w64}
+use Rattle.std.specs.Prelude.{◌≡◌, ◌≢◌, ◌<◌, ◌≤◌, ◌^◌, ℕ, List, [], ◌∷◌, ◌++◌, length, All}
+use Rattle.std.specs.Int.{to_be_bytes, w16, w32, w64}
 use Rattle.pg_run.specs.declared.records.Entry.{Entry}
-use Rattle.pg_run.specs.declared.records.Entry.TheVariants.{Epoch, Address}
-use Rattle.pg_run.specs.Commands.{IsName}
+use Rattle.pg_run.specs.declared.records.Entry.TheVariants.{Epoch, Address, Queue, Add}
+use Rattle.pg_run.specs.Commands.{IsBetween, IsName}
+use Rattle.pg_run.specs.Messages.{message_bytes, IsKept}
+
+-- each id in 4 bytes, one behind the other
+abbrev pub ids_bytes : List ℕ → List ℕ
+ids_bytes [] = []
+ids_bytes (id ∷ ids) = to_be_bytes w32 id ++ ids_bytes ids
 
 -- a code byte, and the fields, whose numbers are big-endian
 abbrev pub entry_bytes : Entry → List ℕ
 entry_bytes (Epoch epoch) = 1 ∷ to_be_bytes w32 epoch
 entry_bytes (Address address name max page ahead dup) =
     2 ∷ (to_be_bytes w32 address ++ (length name ∷ (name ++ (to_be_bytes w64 max ++ (to_be_bytes w64 page ++ (to_be_bytes w64 ahead ++ to_be_bytes w32 dup))))))
+entry_bytes (Queue queue address name filter) =
+    3 ∷ (to_be_bytes w32 queue ++ (to_be_bytes w32 address ++ (length name ∷ (name ++ (to_be_bytes w16 (length filter) ++ filter)))))
+entry_bytes (Add address queues message) =
+    5 ∷ (to_be_bytes w32 address ++ (to_be_bytes w16 (length queues) ++ (ids_bytes queues ++ message_bytes message)))
 
 -- one behind the other
 abbrev pub batch_bytes : List Entry → List ℕ
 batch_bytes [] = []
 batch_bytes (entry ∷ entries) = entry_bytes entry ++ batch_bytes entries
 
+-- the number is below the first of the list, if it has one
+abbrev pub IsBelowFirst : ℕ → List ℕ → Type 0
+IsBelowFirst id [] = Unit {0}
+IsBelowFirst id (next ∷ ids) = id < next
+
+-- each number is below the one behind it
+abbrev pub Ascends : List ℕ → Type 0
+Ascends [] = Unit {0}
+Ascends (id ∷ ids) = IsBelowFirst id ids × Ascends ids
+
+-- the queues that a message goes to
+pub record AreQueues (queues : List ℕ) : Type 0 where
+  pub count : IsBetween 1 1000 (length queues)
+  pub each : All (λ queue. queue < 2 ^ 32) queues
+  pub ascending : Ascends queues
+
 -- each field fits its place, and a name is spelled as one
 abbrev pub HasFields : Entry → Type 0
 HasFields (Epoch epoch) = epoch < 2 ^ 32
 HasFields (Address address name max page ahead dup) = (address < 2 ^ 32) × IsName name × (max < 2 ^ 64) × (page < 2 ^ 64) × (ahead < 2 ^ 64) × (dup < 2 ^ 32)
+HasFields (Queue queue address name filter) = (queue < 2 ^ 32) × (address < 2 ^ 32) × IsName name × (length filter ≤ 4096)
+HasFields (Add address queues message) = (address < 2 ^ 32) × AreQueues queues × IsKept message
 
 abbrev pub HaveFields : List Entry → Type 0
 HaveFields [] = Unit {0}

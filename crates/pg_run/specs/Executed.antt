@@ -1,5 +1,5 @@
 -- What a command does to the broker and to its files, and what a crash within it leaves.
-use Rattle.std.specs.Prelude.{◌≡◌, ◌≢◌, ◌⊎◌, ◌<◌, ◌+◌, ◌^◌, ℕ, List, [], ◌∷◌, length, Option, Some, None, Result, IfOk}
+use Rattle.std.specs.Prelude.{◌≡◌, ◌≢◌, ◌⊎◌, ◌<◌, ◌+◌, ◌^◌, ℕ, List, [], length, Option, Some, None, Result, IfOk}
 use Rattle.std.specs.FinMap.{FinMap, get}
 use Rattle.pg_disk.specs.declared.fault.Fault.{Fault}
 use Rattle.pg_disk.specs.declared.file_id.FileId.{FileId}
@@ -9,19 +9,17 @@ use Rattle.pg_disk.specs.Moments.{Within}
 use Rattle.pg_gate.specs.Gated.{StandsFor, file_of, counted_length}
 use Rattle.pg_run.specs.declared.engine.Engine.{Engine}
 use Rattle.pg_run.specs.declared.msg.Command.{Command}
-use Rattle.pg_run.specs.declared.msg.Command.TheVariants.{Address}
 use Rattle.pg_run.specs.declared.msg.Reply.{Reply}
 use Rattle.pg_run.specs.declared.records.Entry.{Entry}
-use Rattle.pg_run.specs.declared.records.Entry.TheVariants as entry
-use Rattle.pg_run.specs.declared.routes.AddressRow.{AddressRow}
 use Rattle.pg_run.specs.Broker.{Durable, Broker, fresh, refusal_of, Step}
 use Rattle.pg_run.specs.Denotation.{journal, Denotes}
 use Rattle.pg_run.specs.Entries.{batch_bytes, SpellBatches}
 use Rattle.pg_run.specs.Fold.{fold_entries}
+use Rattle.pg_run.specs.Outcomes.{HasNoNumber, batch_of}
 
 -- the state that the engine stands for
 abbrev pub state_of : Engine → Broker
-state_of engine = record { durable = record { epoch = engine.epoch; addresses = engine.routes } }
+state_of engine = engine.state
 
 -- The files are the engine's own: the journal alone is there, its batches give the engine's state, and the next one goes behind them.
 pub record Owns (engine : Engine) (files : FinMap file_cmp FileState) : Type 0 where
@@ -33,18 +31,10 @@ pub record Owns (engine : Engine) (files : FinMap file_cmp FileState) : Type 0 w
   pub spelled : SpellBatches batches entries
   pub folded : fold_entries fresh entries ≡ Some (state_of engine).durable
 
--- the entry that makes an address
-abbrev pub entry_of : ℕ → AddressRow → Entry
-entry_of address row = entry.Address address row.name row.max row.page row.ahead row.dup
-
--- the entries of the batch that a command writes
-abbrev pub batch_of : Broker → Command → List Entry
-batch_of s (Address name max page ahead dup) = entry.Address (length s.durable.addresses + 1) name max page ahead dup ∷ []
-
--- the command isn't refused, and with its batch the journal would grow past its limit
+-- the command isn't refused, and no queue number is left for it, or with its batch the journal would grow past its limit
 pub record MeetsLimit (engine : Engine) (command : Command) : Type 0 where
   pub accepted : refusal_of (state_of engine) command ≡ None
-  pub full : 2 ^ 62 < counted_length engine.journal + length (batch_bytes (batch_of (state_of engine) command)) + 9
+  pub full : HasNoNumber (state_of engine) command ⊎ ((batch_of (state_of engine) command ≢ []) × (2 ^ 62 < counted_length engine.journal + length (batch_bytes (batch_of (state_of engine) command)) + 9))
 
 -- nothing more is told, and the files denote the one or the other
 pub record LeavesEither (a b : Durable) (entry : Option Account) (image : Files) (told : List ℕ) : Type 0 where

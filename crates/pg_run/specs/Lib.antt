@@ -2,11 +2,14 @@ pub mod Answered
 pub mod Broker
 pub mod Commands
 pub mod Denotation
+pub mod Drawn
 pub mod Entries
 pub mod Executed
 pub mod Fold
 pub mod Lines
+pub mod Messages
 pub mod Opened
+pub mod Outcomes
 pub mod ProgramWords
 pub mod Ran
 pub mod ReadSteps

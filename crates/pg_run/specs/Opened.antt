@@ -1,5 +1,5 @@
 -- What opening does, and what a crash within it leaves.
-use Rattle.std.specs.Prelude.{◌≡◌, ℕ, List, [], Option, Some, None, Result, IfOk}
+use Rattle.std.specs.Prelude.{◌≡◌, ℕ, List, Option, Some, None, Result, IfOk}
 use Rattle.std.specs.FinMap.{FinMap, get}
 use Rattle.pg_disk.specs.declared.fault.Fault.{Fault}
 use Rattle.pg_disk.specs.declared.fault.Fault.TheVariants.{Failed, Damaged, Spent, Memory}
@@ -9,7 +9,7 @@ use Rattle.pg_disk.specs.Files.{file_cmp, Files}
 use Rattle.pg_disk.specs.Moments.{Within}
 use Rattle.pg_gate.specs.declared.log.Rest.{Rest}
 use Rattle.pg_run.specs.declared.engine.Engine.{Engine}
-use Rattle.pg_run.specs.Broker.{fresh, opened_from}
+use Rattle.pg_run.specs.Broker.{fresh, next_epoch, opened_from}
 use Rattle.pg_run.specs.Executed.{LeavesEither, StandsAt}
 
 -- no file is there
@@ -40,14 +40,14 @@ IsDamaged Memory = ⊥
 
 -- The journal is begun. At each moment the files denote nothing yet, or the state that is opened first.
 pub record Begins {D : Type 0} (moment : D → ℕ) (left_since : D → ℕ → Files → List ℕ → Type 0) (tells : D → Option Account) (old new : D) (result : Result Rest Fault) : Type 0 where
-  pub moments : Within moment left_since old new (LeavesEither fresh (opened_from fresh).durable (tells old))
+  pub moments : Within moment left_since old new (LeavesEither fresh (next_epoch fresh) (tells old))
   pub kept : IsHonest (tells new)
   pub told : (account (tells new)).told ≡ (account (tells old)).told
-  pub ok : IfOk result (λ journal. StandsAt (record { journal = journal; epoch = 1; routes = [] }) (opened_from fresh) (tells new))
+  pub ok : IfOk result (λ journal. (ids : ℕ) → StandsAt (record { journal = journal; state = opened_from ids fresh }) (opened_from ids fresh) (tells new))
 
 -- The broker is opened in the fresh state, by the same moments.
-pub record Opens {D : Type 0} (moment : D → ℕ) (left_since : D → ℕ → Files → List ℕ → Type 0) (tells : D → Option Account) (old new : D) (result : Result Engine Fault) : Type 0 where
-  pub moments : Within moment left_since old new (LeavesEither fresh (opened_from fresh).durable (tells old))
+pub record Opens {D : Type 0} (ids : ℕ) (moment : D → ℕ) (left_since : D → ℕ → Files → List ℕ → Type 0) (tells : D → Option Account) (old new : D) (result : Result Engine Fault) : Type 0 where
+  pub moments : Within moment left_since old new (LeavesEither fresh (next_epoch fresh) (tells old))
   pub kept : IsHonest (tells new)
   pub told : (account (tells new)).told ≡ (account (tells old)).told
-  pub ok : IfOk result (λ engine. StandsAt engine (opened_from fresh) (tells new))
+  pub ok : IfOk result (λ engine. StandsAt engine (opened_from ids fresh) (tells new))

@@ -11,6 +11,7 @@ mod records;
 mod routes;
 mod run;
 mod serving;
+mod state;
 mod text;
 
 pub use msg::{LIMITS, Limits};

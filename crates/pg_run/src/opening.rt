@@ -11,7 +11,7 @@ ghost use Rattle.pg_disk.specs.Moments.{Within};
 use crate::engine::Engine;
 use crate::msg::Limits;
 use crate::records::{Entry, encode_batch};
-use crate::routes::Routes;
+use crate::state::State;
 use pg_disk::{Damage, Disk, Fault, FileId, Kind, Rule};
 use pg_gate::{Rest, lay};
 use std::alloc::Global;
@@ -29,7 +29,7 @@ const JOURNAL: FileId = FileId {
 /// Opens a broker over a directory without files. `Damaged` comes where a file is there, and then nothing is changed; `Spent`
 /// where the limits have no epoch left.
 pub fn open<D: Disk>(alloc: Global, disk: &mut D, limits: &Limits) -> Result<Engine, Fault>
-    ensures opens { IsHonest (D.tells disk.old) → HasNoFile (account (D.tells disk.old)).files → Opens D.moment D.left_since D.tells disk.old disk.new result }
+    ensures opens { IsHonest (D.tells disk.old) → HasNoFile (account (D.tells disk.old)).files → Opens limits.now.ids D.moment D.left_since D.tells disk.old disk.new result }
     ensures back { IsHonest (D.tells disk.new) → IsHonest (D.tells disk.old) }
     ensures damaged { IfErr result (λ fault. IsDamaged fault → HasFile (D.tells disk.old) × Changes (D.tells disk.old) (D.tells disk.new) (Reads 0)) }
     ensures empty { OnOk result (IsHonest (D.tells disk.old) → HasNoFile (account (D.tells disk.old)).files) }
@@ -52,8 +52,7 @@ pub fn open<D: Disk>(alloc: Global, disk: &mut D, limits: &Limits) -> Result<Eng
     let journal = begin_journal(disk, batch.as_slice())?;
     Ok(Engine {
         journal,
-        epoch: FIRST_EPOCH,
-        routes: Routes::new(alloc),
+        state: State::opened(alloc, limits.ids),
     })
 }
 

@@ -28,10 +28,10 @@ pub fn pagebroker<S: Site, R: Source>(
     ensures untouched { result ≡ 1 → (site.new ≡ site.old) × (source.new ≡ source.old) }
 
     // Replies, statuses, and what a crash at any moment leaves.
-    ensures ran { result ≢ 1 → Ran (LeavesRun fresh) ⊥ (IsHonest (S.tells site.old) × HasNoFile (account (S.tells site.old)).files) S.moment S.left_since S.tells (opened_from fresh)
+    ensures ran { result ≢ 1 → Ran (LeavesRun fresh) ⊥ (IsHonest (S.tells site.old) × HasNoFile (account (S.tells site.old)).files) S.moment S.left_since S.tells (opened_from LIMITS.ids fresh)
         LIMITS.input (R.rest source.old) (R.rest source.new) site.old site.new result }
     ensures served { result ≡ 0 → IsHonest (S.tells site.old) → HasNoFile (account (S.tells site.old)).files → (input : List ℕ) → R.rest source.old ≡ Some input →
-        (R.rest source.new ≡ Some []) × ServesInput (opened_from fresh) input (account (S.tells site.old)) (account (S.tells site.new)) }
+        (R.rest source.new ≡ Some []) × ServesInput (opened_from LIMITS.ids fresh) input (account (S.tells site.old)) (account (S.tells site.new)) }
     ensures complete { result ≢ 1 → IsSpared S.tells (R.rest source.old) LIMITS.input site.old site.new (S.faults site.old) (S.faults site.new) (R.faults source.old) (R.faults source.new) →
         HasNoFile (account (S.tells site.old)).files → (result ≡ 0) ⊎ (result ≡ 6) }
     ensures empty { IsAnyBut (1 ∷ 2 ∷ 3 ∷ 6 ∷ []) result → IsHonest (S.tells site.old) → HasNoFile (account (S.tells site.old)).files }

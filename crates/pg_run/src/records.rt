@@ -1,13 +1,18 @@
 // Entries of the journal as bytes.
 ghost use Rattle.std.specs.Prelude.{◌≡◌, ◌<◌, ◌^◌, ◌∷◌, ◌++◌, length, IfOk, OnOk};
-ghost use Rattle.std.specs.Int.{to_be_bytes, w32, w64};
-ghost use Rattle.pg_run.specs.Entries.{batch_bytes, entry_bytes, HasFields, HaveFields};
+ghost use Rattle.std.specs.Int.{to_be_bytes, w16, w32, w64};
+ghost use Rattle.pg_run.specs.Entries.{batch_bytes, entry_bytes, ids_bytes, HasFields, HaveFields};
+ghost use Rattle.pg_run.specs.Messages.{message_bytes, weight_of};
 
 #[cfg(test)]
 mod tests;
 
-use pg_bytes::{Octets, Text, put_bytes, put_u8, put_u32, put_u64};
+use crate::msg::{Message, QueueIds};
+use pg_bytes::{Octets, Text, put_bytes, put_u8, put_u16, put_u32, put_u64};
 use std::alloc::{AllocError, Global};
+
+// How many bytes of a message stand in front of its body.
+const HEADER: u64 = 15;
 
 /// One change of the broker's state, as the journal has it. `docs/FORMATS.md` gives its bytes.
 #[derive(Debug, PartialEq, Eq, Drop)]
@@ -25,6 +30,27 @@ pub enum Entry {
         ahead: u64,
         dup: u32,
     },
+    /// A queue was made on an address.
+    Queue {
+        queue: u32,
+        address: u32,
+        name: Text,
+        filter: Text,
+    },
+    /// A message to an address was given to the queues, whose ids ascend.
+    Add {
+        address: u32,
+        queues: QueueIds,
+        message: Message,
+    },
+}
+
+/// How many bytes the message takes, with its header.
+pub fn weight(message: &Message) -> u64
+    ensures { result ≡ weight_of message.now }
+{
+    let body = message.body.as_slice();
+    HEADER + body.len() as u64
 }
 
 /// The payload of a batch with these entries.
@@ -62,6 +88,25 @@ fn put_entry(out: &mut Octets, entry: &Entry) -> Result<(), AllocError>
             put_name(out, name)?;
             put_settings(out, *max, *page, *ahead, *dup)
         }
+        Entry::Queue {
+            queue,
+            address,
+            name,
+            filter,
+        } => {
+            put_u8(out, 3)?;
+            put_queue(out, *queue, *address, name, filter)
+        }
+        Entry::Add {
+            address,
+            queues,
+            message,
+        } => {
+            put_u8(out, 5)?;
+            put_u32(out, *address)?;
+            put_queues(out, queues)?;
+            put_message(out, message)
+        }
     }
 }
 
@@ -90,4 +135,66 @@ fn put_settings(
     put_u64(out, page)?;
     put_u64(out, ahead)?;
     put_u32(out, dup)
+}
+
+// Appends the ids of the queue and of its address, the name and the filter.
+fn put_queue(
+    out: &mut Octets,
+    queue: u32,
+    address: u32,
+    name: &Text,
+    filter: &Text,
+) -> Result<(), AllocError>
+    requires name_fits { length name.now < 2 ^ 8 }
+    requires filter_fits { length filter.now < 2 ^ 16 }
+    ensures { OnOk result (out.new ≡ out.old ++ (to_be_bytes w32 queue ++ (to_be_bytes w32 address
+        ++ (length name.now ∷ (name.now ++ (to_be_bytes w16 (length filter.now) ++ filter.now)))))) }
+{
+    put_u32(out, queue)?;
+    put_u32(out, address)?;
+    put_name(out, name)?;
+    put_filter(out, filter)
+}
+
+// Appends the length of the filter in two bytes, and the filter.
+fn put_filter(out: &mut Octets, filter: &Text) -> Result<(), AllocError>
+    requires { length filter.now < 2 ^ 16 }
+    ensures { OnOk result (out.new ≡ out.old ++ (to_be_bytes w16 (length filter.now) ++ filter.now)) }
+{
+    let text = filter.as_str().as_bytes();
+    put_u16(out, text.len() as u16)?;
+    put_bytes(out, text)
+}
+
+// Appends the count of the queues in two bytes, and their ids.
+fn put_queues(out: &mut Octets, queues: &QueueIds) -> Result<(), AllocError>
+    requires { length queues.now < 2 ^ 16 }
+    ensures { OnOk result (out.new ≡ out.old ++ (to_be_bytes w16 (length queues.now) ++ ids_bytes queues.now)) }
+{
+    let ids = queues.as_slice();
+    put_u16(out, ids.len() as u16)?;
+    put_ids(out, ids)
+}
+
+// Appends the ids.
+fn put_ids(out: &mut Octets, ids: &[u32]) -> Result<(), AllocError>
+    ensures { OnOk result (out.new ≡ out.old ++ ids_bytes ids.now) }
+{
+    for id in ids {
+        put_u32(out, *id)?;
+    }
+    Ok(())
+}
+
+// Appends the message: its id, its kind with neither a duplicate id nor a property, and its body behind its length.
+fn put_message(out: &mut Octets, message: &Message) -> Result<(), AllocError>
+    requires { length message.now.body < 2 ^ 32 }
+    ensures { OnOk result (out.new ≡ out.old ++ message_bytes message.now) }
+{
+    let body = message.body.as_slice();
+    put_u32(out, message.id.epoch)?;
+    put_u32(out, message.id.number)?;
+    put_bytes(out, &[1, 0, 0])?;
+    put_u32(out, body.len() as u32)?;
+    put_bytes(out, body)
 }

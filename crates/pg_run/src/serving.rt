@@ -17,10 +17,10 @@ use std::alloc::Global;
 /// The command `run`: opens the broker, executes the lines of the source in order, and tells each reply once its line's
 /// change is on the disk. It answers the program's status (`docs/FORMATS.md`).
 pub fn serve<S: Site, R: Source>(alloc: Global, source: &mut R, site: &mut S, limits: &Limits) -> u8
-    ensures ran { Ran (LeavesRun fresh) (limits.now.epochs ≤ 1) (IsHonest (S.tells site.old) × HasNoFile (account (S.tells site.old)).files) S.moment S.left_since S.tells (opened_from fresh)
+    ensures ran { Ran (LeavesRun fresh) (limits.now.epochs ≤ 1) (IsHonest (S.tells site.old) × HasNoFile (account (S.tells site.old)).files) S.moment S.left_since S.tells (opened_from limits.now.ids fresh)
         limits.now.input (R.rest source.old) (R.rest source.new) site.old site.new result }
     ensures served { result ≡ 0 → IsHonest (S.tells site.old) → HasNoFile (account (S.tells site.old)).files → (input : List ℕ) → R.rest source.old ≡ Some input →
-        (R.rest source.new ≡ Some []) × ServesInput (opened_from fresh) input (account (S.tells site.old)) (account (S.tells site.new)) }
+        (R.rest source.new ≡ Some []) × ServesInput (opened_from limits.now.ids fresh) input (account (S.tells site.old)) (account (S.tells site.new)) }
     ensures complete { IsSpared S.tells (R.rest source.old) limits.now.input site.old site.new (S.faults site.old) (S.faults site.new) (R.faults source.old) (R.faults source.new) →
         HasNoFile (account (S.tells site.old)).files → 1 < limits.now.epochs → (result ≡ 0) ⊎ (result ≡ 6) }
     ensures damaged { result ≡ 2 → HasFile (S.tells site.old) × Changes (S.tells site.old) (S.tells site.new) (Reads 0) }
@@ -42,7 +42,7 @@ fn run<S: Site, R: Source>(
     site: &mut S,
     limits: &Limits,
 ) -> Result<(), Stop>
-    ensures ran { Ran (LeavesRun fresh) (limits.now.epochs ≤ 1) (IsHonest (S.tells site.old) × HasNoFile (account (S.tells site.old)).files) S.moment S.left_since S.tells (opened_from fresh)
+    ensures ran { Ran (LeavesRun fresh) (limits.now.epochs ≤ 1) (IsHonest (S.tells site.old) × HasNoFile (account (S.tells site.old)).files) S.moment S.left_since S.tells (opened_from limits.now.ids fresh)
         limits.now.input (R.rest source.old) (R.rest source.new) site.old site.new (status_of result) }
     ensures damaged { IfErr result (λ stop. IsDamagedStop stop → HasFile (S.tells site.old) × Changes (S.tells site.old) (S.tells site.new) (Reads 0)) }
     ensures empty { IsAnyBut (2 ∷ 3 ∷ 6 ∷ []) (status_of result) → IsHonest (S.tells site.old) → HasNoFile (account (S.tells site.old)).files }

@@ -24,6 +24,9 @@ const GREATEST_AHEAD: u64 = 1_000_000_000;
 
 const GREATEST_DUP: u64 = 65_535;
 
+// The body of a message has at most so many bytes.
+const LONGEST_BODY: usize = 1000;
+
 // The settings of an address, as a line gives them.
 #[derive(Clone, Copy)]
 struct AddressSettings {
@@ -42,6 +45,15 @@ pub fn parse_line(alloc: Global, line: &[u8]) -> Result<Option<Command>, AllocEr
     }
     if let Some(arguments) = words::keyword(line, b"address ") {
         return address(alloc, arguments);
+    }
+    if let Some(arguments) = words::keyword(line, b"queue ") {
+        return queue(alloc, arguments);
+    }
+    if let Some(arguments) = words::keyword(line, b"send ") {
+        return send(alloc, arguments);
+    }
+    if let Some(arguments) = words::keyword(line, b"count ") {
+        return count(alloc, arguments);
     }
     Ok(None)
 }
@@ -88,14 +100,83 @@ fn address_settings(line: &[u8]) -> Option<AddressSettings>
     })
 }
 
+// The command `queue` with its arguments.
+fn queue(alloc: Global, arguments: &[u8]) -> Result<Option<Command>, AllocError>
+    ensures { IfOk result (λ item. ReadsBehind (codes "queue ") arguments.now item) }
+{
+    let Some((name, rest)) = words::name(arguments) else {
+        return Ok(None);
+    };
+    let Some(rest) = words::keyword(rest, b" on ") else {
+        return Ok(None);
+    };
+    let Some(address) = words::last_name(rest) else {
+        return Ok(None);
+    };
+    Ok(Some(Command::Queue {
+        name: Text::from_str(alloc, name)?,
+        address: Text::from_str(alloc, address)?,
+    }))
+}
+
+// The command `send` with its arguments. The body is all that is behind the word `body` and one space.
+fn send(alloc: Global, arguments: &[u8]) -> Result<Option<Command>, AllocError>
+    ensures { IfOk result (λ item. ReadsBehind (codes "send ") arguments.now item) }
+{
+    let Some((address, rest)) = words::name(arguments) else {
+        return Ok(None);
+    };
+    let Some(body) = words::keyword(rest, b" body ") else {
+        return Ok(None);
+    };
+    if body.len() > LONGEST_BODY {
+        return Ok(None);
+    }
+    Ok(Some(Command::Send {
+        address: Text::from_str(alloc, address)?,
+        body: Octets::from_slice(alloc, body)?,
+    }))
+}
+
+// The command `count` with its arguments.
+fn count(alloc: Global, arguments: &[u8]) -> Result<Option<Command>, AllocError>
+    ensures { IfOk result (λ item. ReadsBehind (codes "count ") arguments.now item) }
+{
+    let Some(queue) = words::last_name(arguments) else {
+        return Ok(None);
+    };
+    Ok(Some(Command::Count {
+        queue: Text::from_str(alloc, queue)?,
+    }))
+}
+
 /// The line of a reply, with its line end.
 pub fn render(alloc: Global, reply: Reply) -> Result<Octets, AllocError>
     ensures { IfOk result (λ bytes. bytes ≡ reply_line reply) }
 {
-    let line: &[u8] = match reply {
-        Reply::Done => b"ok\n",
-        Reply::No(Refusal::Line) => b"no line\n",
-        Reply::No(Refusal::Name) => b"no name\n",
-    };
-    Octets::from_slice(alloc, line)
+    match reply {
+        Reply::Done => Octets::from_slice(alloc, b"ok\n"),
+        Reply::No(refusal) => Octets::from_slice(alloc, refusal_line(refusal)),
+        Reply::Sent(id) => {
+            let line = format!(in alloc; "sent {}-{}\n", id.epoch, id.number)?;
+            Ok(Octets::from_vec(line.into_bytes()))
+        }
+        Reply::Unrouted => Octets::from_slice(alloc, b"unrouted\n"),
+        Reply::Count(count) => {
+            let line = format!(in alloc; "count {count}\n")?;
+            Ok(Octets::from_vec(line.into_bytes()))
+        }
+    }
+}
+
+// The line of a refusal, with its line end.
+fn refusal_line(refusal: Refusal) -> &'static [u8]
+    ensures { result.now ≡ reply_line (Reply.No refusal) }
+{
+    match refusal {
+        Refusal::Line => b"no line\n",
+        Refusal::Name => b"no name\n",
+        Refusal::Address => b"no address\n",
+        Refusal::Queue => b"no queue\n",
+    }
 }

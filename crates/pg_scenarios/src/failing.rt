@@ -4,9 +4,9 @@ use pg_run::pagebroker;
 use std::test::Fail;
 
 const SCRIPT: &[u8] =
-    b"address A max 50 page 100 ahead 0 dup 0\nqueue Q on A\naddress A max 1 page 1 ahead 1 dup 1\naddress B max 0 page 1 ahead 0 dup 0\n";
+    b"address A max 50 page 100 ahead 0 dup 0\nqueue Q on A\nqueue Q on A\nsend A body x\ncount Q\n";
 
-const REPLIES: &[u8] = b"ok\nno line\nno name\nok\n";
+const REPLIES: &[u8] = b"ok\nok\nno name\nsent 1-1\ncount 1\n";
 
 #[test]
 fn each_failing_call_of_the_disk_ends_the_run(rt: HostRuntime) -> Result<(), Fail> {
@@ -14,8 +14,8 @@ fn each_failing_call_of_the_disk_ends_the_run(rt: HostRuntime) -> Result<(), Fai
     assert_eq!(rt; run(rt.alloc(), &mut whole, SCRIPT)?, 0);
     assert_eq!(rt; whole.told(), REPLIES);
     // The listing, a create, and a write and a sync for the first gate; five writes and two syncs for each batch.
-    assert_eq!(rt; whole.calls(), 25);
-    for number in 1..26u64 {
+    assert_eq!(rt; whole.calls(), 32);
+    for number in 1..33u64 {
         let mut site = MemSite::new(rt.alloc());
         site.fail(&[number])?;
         let status = run(rt.alloc(), &mut site, SCRIPT)?;
@@ -29,7 +29,13 @@ fn each_failing_call_of_the_disk_ends_the_run(rt: HostRuntime) -> Result<(), Fai
 
 #[test]
 fn each_failing_emit_ends_the_run(rt: HostRuntime) -> Result<(), Fail> {
-    let before: [&[u8]; 4] = [b"", b"ok\n", b"ok\nno line\n", b"ok\nno line\nno name\n"];
+    let before: [&[u8]; 5] = [
+        b"",
+        b"ok\n",
+        b"ok\nok\n",
+        b"ok\nok\nno name\n",
+        b"ok\nok\nno name\nsent 1-1\n",
+    ];
     let mut number = 0u64;
     for told in before {
         number = number.saturating_add(1);

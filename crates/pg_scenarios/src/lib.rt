@@ -4,6 +4,8 @@
 #[cfg(test)]
 mod failing;
 #[cfg(test)]
+mod messages;
+#[cfg(test)]
 mod scripts;
 #[cfg(test)]
 mod stage;

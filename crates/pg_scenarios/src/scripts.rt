@@ -17,7 +17,7 @@ fn scripts_are_answered(rt: HostRuntime) -> Result<(), Fail> {
         ),
         (
             "unreadable lines",
-            b"queue Q on A\n\n\xff\xfe\naddress B max 1000000000001 page 1 ahead 0 dup 0\n",
+            b"queue Q on\n\n\xff\xfe\naddress B max 1000000000001 page 1 ahead 0 dup 0\n",
             b"no line\nno line\nno line\nno line\n",
         ),
         (

@@ -1,4 +1,5 @@
 use super::*;
+use crate::msg::MessageId;
 use std::test::Fail;
 
 // A line, and the name and the settings that it gives.
@@ -69,12 +70,151 @@ fn reads_lines(rt: HostRuntime) -> Result<(), Fail> {
     Ok(())
 }
 
+// A name of 64 bytes, which is the longest.
+const LONGEST: &str = "abcdefghijklmnopqrstuvwxyzABCDEFGHIJKLMNOPQRSTUVWXYZ_.0123456789";
+
+// A line, and the names of the queue and of the address that it gives.
+type QueueCase = (&'static [u8], Option<(&'static str, &'static str)>);
+
+const QUEUES: [QueueCase; 12] = [
+    (b"queue Q on A", Some(("Q", "A"))),
+    (b"queue on on on", Some(("on", "on"))),
+    (
+        b"queue Q on abcdefghijklmnopqrstuvwxyzABCDEFGHIJKLMNOPQRSTUVWXYZ_.0123456789",
+        Some(("Q", LONGEST)),
+    ),
+    (
+        b"queue abcdefghijklmnopqrstuvwxyzABCDEFGHIJKLMNOPQRSTUVWXYZ_.0123456789 on A",
+        Some((LONGEST, "A")),
+    ),
+    (
+        b"queue Q on abcdefghijklmnopqrstuvwxyzABCDEFGHIJKLMNOPQRSTUVWXYZ_.01234567890",
+        None,
+    ),
+    (
+        b"queue abcdefghijklmnopqrstuvwxyzABCDEFGHIJKLMNOPQRSTUVWXYZ_.01234567890 on A",
+        None,
+    ),
+    (b"queue Q on A where x", None),
+    (b"queue Q on A ", None),
+    (b"queue Q on ", None),
+    (b"queue Q on \xff", None),
+    (b"queue Q  on A", None),
+    (b"queue  on A", None),
+];
+
+#[test]
+fn reads_queues(rt: HostRuntime) -> Result<(), Fail> {
+    for (line, names) in QUEUES {
+        let command = match names {
+            Some((name, address)) => Some(Command::Queue {
+                name: Text::from_str(rt.alloc(), name)?,
+                address: Text::from_str(rt.alloc(), address)?,
+            }),
+            None => None,
+        };
+        assert_eq!(rt; parse_line(rt.alloc(), line)?, command, "{line:?}");
+    }
+    Ok(())
+}
+
+// A line, and the address and the body that it gives.
+type SendCase = (&'static [u8], Option<(&'static str, &'static [u8])>);
+
+const SENDS: [SendCase; 9] = [
+    (b"send A body aaaaa", Some(("A", b"aaaaa"))),
+    (b"send A body ", Some(("A", b""))),
+    (b"send A body   two words ", Some(("A", b"  two words "))),
+    (
+        b"send A body \x00\xff\xc3\x28\x0d",
+        Some(("A", b"\x00\xff\xc3\x28\x0d")),
+    ),
+    (b"send A body body ", Some(("A", b"body "))),
+    (b"send A body", None),
+    (b"send A  body a", None),
+    (b"send 1 body a", None),
+    (b"send A Body a", None),
+];
+
+#[test]
+fn reads_messages(rt: HostRuntime) -> Result<(), Fail> {
+    for (line, parts) in SENDS {
+        let command = match parts {
+            Some((address, body)) => Some(Command::Send {
+                address: Text::from_str(rt.alloc(), address)?,
+                body: Octets::from_slice(rt.alloc(), body)?,
+            }),
+            None => None,
+        };
+        assert_eq!(rt; parse_line(rt.alloc(), line)?, command, "{line:?}");
+    }
+    for (length, readable) in [(1000, true), (1001, false)] {
+        let body = vec![in rt.alloc(); 0xff; length]?;
+        let mut line = Vec::from_slice(rt.alloc(), b"send A body ")?;
+        line.extend_from_slice(&body)?;
+        let command = if readable {
+            Some(Command::Send {
+                address: Text::from_str(rt.alloc(), "A")?,
+                body: Octets::from_vec(body),
+            })
+        } else {
+            None
+        };
+        assert_eq!(rt; parse_line(rt.alloc(), &line)?, command, "{length}");
+    }
+    Ok(())
+}
+
+const COUNTS: [(&[u8], Option<&str>); 6] = [
+    (b"count Q", Some("Q")),
+    (
+        b"count abcdefghijklmnopqrstuvwxyzABCDEFGHIJKLMNOPQRSTUVWXYZ_.0123456789",
+        Some(LONGEST),
+    ),
+    (
+        b"count abcdefghijklmnopqrstuvwxyzABCDEFGHIJKLMNOPQRSTUVWXYZ_.01234567890",
+        None,
+    ),
+    (b"count Q ", None),
+    (b"count ", None),
+    (b"count", None),
+];
+
+#[test]
+fn reads_counts(rt: HostRuntime) -> Result<(), Fail> {
+    for (line, queue) in COUNTS {
+        let command = match queue {
+            Some(queue) => Some(Command::Count {
+                queue: Text::from_str(rt.alloc(), queue)?,
+            }),
+            None => None,
+        };
+        assert_eq!(rt; parse_line(rt.alloc(), line)?, command, "{line:?}");
+    }
+    Ok(())
+}
+
 #[test]
 fn writes_replies(rt: HostRuntime) -> Result<(), Fail> {
     for (reply, line) in [
         (Reply::Done, "ok\n"),
         (Reply::No(Refusal::Line), "no line\n"),
         (Reply::No(Refusal::Name), "no name\n"),
+        (Reply::No(Refusal::Address), "no address\n"),
+        (Reply::No(Refusal::Queue), "no queue\n"),
+        (
+            Reply::Sent(MessageId {
+                epoch: 1,
+                number: 4_294_967_295,
+            }),
+            "sent 1-4294967295\n",
+        ),
+        (Reply::Unrouted, "unrouted\n"),
+        (Reply::Count(0), "count 0\n"),
+        (
+            Reply::Count(18_446_744_073_709_551_615),
+            "count 18446744073709551615\n",
+        ),
     ] {
         let bytes = render(rt.alloc(), reply)?;
         assert_eq!(rt; bytes.as_slice(), line.as_bytes());

@@ -46,6 +46,18 @@ pub(super) fn name(line: &[u8]) -> Option<(&str, &[u8])>
     Some((name, rest))
 }
 
+// The whole line, where it is a name.
+pub(super) fn last_name(line: &[u8]) -> Option<&str>
+    ensures { MatchOption result
+        (¬ IsName line.now)
+        (λ name. (name.now ≡ line.now) × IsName line.now) }
+{
+    if !is_name(line) {
+        return None;
+    }
+    str::from_utf8(line).ok()
+}
+
 // The decimal number from `least` to `most` that is the first word.
 fn number(line: &[u8], least: u64, most: u64) -> Option<(u64, &[u8])>
     ensures { MatchOption result

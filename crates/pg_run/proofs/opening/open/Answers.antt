@@ -1,6 +1,5 @@
-use Rattle.std.proofs.Common.{List, subst, sym}
-use Rattle.pg_run.specs.declared.routes.AddressRow.{AddressRow}
-use Rattle.pg_run.specs.Broker.{fresh, opened_from}
+use Rattle.std.proofs.Common.{subst, sym}
+use Rattle.pg_run.specs.Broker.{Broker, fresh, opened_from}
 use Rattle.pg_run.specs.Executed.{StandsAt}
 use Rattle.pg_run.specs.Opened.{IsAFile}
 use Rattle.pg_run.proofs.OpeningLemmas.{opens, none_after}
@@ -14,5 +13,5 @@ begin_journal-requires-clause-empty g c =
 pub returns-clause-opens : goal.returns-clause-opens
 returns-clause-opens g c honest none =
     let begins = c.in_ok-journal.ensures.begins (c.first_file.ensures.same.kept honest) in
-    opens g.D.Disk.moment g.D.Disk.left_since g.D.Disk.tells c.args.disk.now c.first_file.new.disk c.begin_journal.new.disk honest none c.first_file.ensures.time c.first_file.ensures.same _ begins _
-    (subst (λ (rows : List AddressRow). StandsAt (record { journal = c.in_ok-journal.journal; epoch = 1; routes = rows }) (opened_from fresh) (g.D.Disk.tells c.begin_journal.new.disk)) (sym c.new.ensures) begins.ok)
+    opens c.args.limits.now.ids g.D.Disk.moment g.D.Disk.left_since g.D.Disk.tells c.args.disk.now c.first_file.new.disk c.begin_journal.new.disk honest none c.first_file.ensures.time c.first_file.ensures.same _ begins _
+    (subst (λ (state : Broker). StandsAt (record { journal = c.in_ok-journal.journal; state = state }) (opened_from c.args.limits.now.ids fresh) (g.D.Disk.tells c.begin_journal.new.disk)) (sym c.opened.ensures) (begins.ok c.args.limits.now.ids))

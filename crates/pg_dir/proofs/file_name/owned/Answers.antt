@@ -1,0 +1,14 @@
+use Rattle.std.proofs.Common.{◌≡◌, lit<, Some, sym}
+use Rattle.std.proofs.lemmas.Bool.{not-false}
+use Rattle.std.proofs.lemmas.Slice.Eq.{bytes_eq-Decides}
+use Rattle.std.proofs.lemmas.Str.Pattern.{split_parts}
+use Rattle.pg_dir.proofs.Decimals.{number_given}
+use Rattle.pg_dir.proofs.file_name.owned.Goals as goal
+
+pub returns-clause-sound : goal.returns-clause-sound
+returns-clause-sound c =
+    let first = split_parts 45 c.args.text.now (Some (c.in_ok-owner.owner, c.in_ok-owner.rest)) c.in_ok-owner.ensures.cases (lit< tt) in
+    let second = split_parts 46 c.in_ok-owner.rest.now (Some (c.in_ok-number.number, c.in_ok-number.found)) c.in_ok-number.ensures.cases (lit< tt) in
+    let ends : c.in_ok-number.found.now ≡ c.args.ending.now = (bytes_eq-Decides c.in_ok-number.found.now c.args.ending.now).0 (not-false _ (sym c.if-ne.ensures)) in
+    let kept : c.in_ok-ok.field-0 ≡ c.in_ok-positive_decimal.field-0 = number_given c.try_from.result _ c.in_ok-ok.field-0 c.in_ok-positive_decimal.field-0 c.try_from.ensures c.in_ok-ok.ensures.value in
+    cc (first.0, second.0, ends, kept, c.in_ok-positive_decimal.ensures.sound, c.in_ok-positive_decimal-2.ensures.sound)

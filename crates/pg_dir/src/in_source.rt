@@ -1,0 +1,111 @@
+// An input as the broker's source.
+ghost use Rattle.std.specs.Prelude.{None, IfOk, ◌≤◌, length};
+
+use pg_disk::{Failed, Source};
+use std::alloc::{AllocError, Global};
+use std::io::{self, ErrorKind, Read};
+
+/// The most bytes that one read takes.
+const MOST_AT_ONCE: usize = 65_536;
+
+/// An input of which nothing is told. Each read asks the input once, unless a signal interrupts it.
+#[derive(Drop)]
+pub struct InSource<R> {
+    input: R,
+    // What an input leaves in the rest of a buffer isn't known, so none is handed the caller's.
+    buffer: Vec<u8>,
+    faults: u64,
+}
+
+impl<R: Read + Drop> InSource<R> {
+    pub fn new(alloc: Global, input: R) -> Result<Self, AllocError> {
+        Ok(InSource {
+            input,
+            buffer: vec![in alloc; 0; MOST_AT_ONCE]?,
+            faults: 0,
+        })
+    }
+}
+
+// One read that isn't interrupted.
+fn read_once<R: Read>(input: &mut R, buf: &mut [u8]) -> io::Result<usize>
+    ensures { IfOk result (λ n. n ≤ length buf.old) }
+{
+    for _ in 0..u64::MAX {
+        match input.read(buf) {
+            Err(error) if error.kind() == ErrorKind::Interrupted => {}
+            outcome => return outcome,
+        }
+    }
+    Err(io::Error::from(ErrorKind::Interrupted))
+}
+
+impl<R: Read + Drop> Source for InSource<R> {
+    ghost rest = { λ _. None };
+
+    ghost faults = { λ source. source.faults };
+
+    fn read(&mut self, buf: &mut [u8]) -> Result<usize, Failed> {
+        let most = buf.len().min(self.buffer.len());
+        let taken = &mut self.buffer[..most];
+        match read_once(&mut self.input, taken) {
+            Ok(count) => {
+                buf[..count].copy_from_slice(&taken[..count]);
+                Ok(count)
+            }
+            Err(_) => {
+                self.faults = self.faults.saturating_add(1);
+                Err(Failed)
+            }
+        }
+    }
+}
+
+#[cfg(test)]
+mod tests {
+    use super::*;
+    use std::test::Fail;
+
+    // Interrupted, then two bytes, then broken.
+    #[derive(Drop)]
+    struct Failing {
+        reads: u8,
+    }
+
+    impl Read for Failing {
+        fn read(&mut self, buf: &mut [u8]) -> io::Result<usize> {
+            self.reads = self.reads.saturating_add(1);
+            match self.reads {
+                1 => Err(io::Error::from(ErrorKind::Interrupted)),
+                2 => b"xy".as_slice().read(buf),
+                _ => Err(io::Error::from(ErrorKind::Other)),
+            }
+        }
+    }
+
+    #[test]
+    fn reads_to_the_end(rt: HostRuntime) -> Result<(), Fail> {
+        let mut source = InSource::new(rt.alloc(), b"hello".as_slice())?;
+        let mut buf = [b'.'; 4];
+        assert_eq!(rt; source.read(&mut buf), Ok(4));
+        assert_eq!(rt; &buf, b"hell");
+        assert_eq!(rt; source.read(&mut buf), Ok(1));
+        assert_eq!(rt; &buf, b"oell");
+        assert_eq!(rt; source.read(&mut buf), Ok(0));
+        assert_eq!(rt; source.faults, 0);
+        Ok(())
+    }
+
+    #[test]
+    fn counts_failures(rt: HostRuntime) -> Result<(), Fail> {
+        let mut source = InSource::new(rt.alloc(), Failing { reads: 0 })?;
+        let mut buf = [b'.'; 4];
+        assert_eq!(rt; source.read(&mut buf), Ok(2));
+        assert_eq!(rt; &buf, b"xy..");
+        for faults in 1..3 {
+            assert_eq!(rt; source.read(&mut buf), Err(Failed));
+            assert_eq!(rt; source.faults, faults);
+        }
+        Ok(())
+    }
+}

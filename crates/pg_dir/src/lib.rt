@@ -1,0 +1,12 @@
+//! The system as the broker's outside: a directory as its disk, an output, an input, and the standard streams.
+#![tactic(auto)]
+
+mod dir_site;
+mod file_name;
+mod folder;
+mod in_source;
+mod standard;
+
+pub use dir_site::DirSite;
+pub use in_source::InSource;
+pub use standard::Standard;
