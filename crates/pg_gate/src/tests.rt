@@ -4,7 +4,8 @@ ghost use Rattle.pg_disk.specs.Account.{account, IsHonest};
 ghost use Rattle.pg_disk.specs.Image.{IsFileThere};
 
 use super::*;
-use pg_disk::{Damage, Disk, Failed, Fault, FileId, Kind, MemSite, Rule};
+use pg_disk::{Damage, Disk, Failed, Fault, FileId, Kind, MemSite, Pick, Rule};
+use std::alloc::{AllocError, Global};
 use std::test::Fail;
 
 const PAGE: FileId = FileId {
@@ -118,5 +119,55 @@ fn reads_payloads(rt: HostRuntime) -> Result<(), Fail> {
             rule: Rule::Cut
         }))
     );
+    Ok(())
+}
+
+// Behind a closed gate what looks like a batch of 13 bytes, and in these, at the offset 11, what looks like a batch too.
+const LOOKALIKE: &[u8] = b"\0\0\0\0\0\0\0\0\x0dno\x01\0\0\0\0\0\0\0\x01x\0\0";
+
+// Reads the file anew, and adds a batch behind those that it has. Answers how many these are.
+fn scan_and_append<D: Disk>(alloc: Global, disk: &mut D, batch: &[u8]) -> Result<usize, Fault>
+    requires { IsHonest (D.tells disk.old) → IsFileThere PAGE (account (D.tells disk.old)).files }
+{
+    let (rest, spans) = scan(alloc, disk, PAGE)?;
+    rest.append(disk, batch)?;
+    Ok(spans.len())
+}
+
+// Whether the site, where it is stopped within the call, leaves no batch, or the batch `hi` alone.
+fn leaves_hi_or_none(site: &MemSite, stop: u64, pick: Pick) -> Result<bool, AllocError> {
+    if stop == 0 || stop > site.calls() {
+        return Ok(false);
+    }
+    let left = site.crash(stop, pick)?;
+    Ok(match left.bytes(PAGE) {
+        Some([1, 0, 0, 0, 0, 0, 0, 0, 2, b'h', b'i', next, ..]) => *next != 1,
+        Some([1, ..]) => false,
+        Some(_) => true,
+        None => false,
+    })
+}
+
+#[test]
+fn what_looks_like_a_batch_is_never_read(rt: HostRuntime) -> Result<(), Fail> {
+    let mut site = MemSite::new(rt.alloc());
+    make(&mut site, LOOKALIKE)?;
+    assert_eq!(rt; scan_and_append(rt.alloc(), &mut site, b"hi")?, 0);
+    let after = b"\x01\0\0\0\0\0\0\0\x02hi\0\0\0\0\0\0\0\0\x01x\0\0";
+    assert_eq!(rt; site.bytes(PAGE), Some(after.as_slice()));
+    // The first three calls make the file.
+    let end = site.calls().saturating_add(1);
+    assert!(rt; end > 11);
+    for stop in 4..end {
+        for pick in [
+            Pick::Old,
+            Pick::New,
+            Pick::Fill(0),
+            Pick::Fill(1),
+            Pick::Fill(255),
+        ] {
+            assert!(rt; leaves_hi_or_none(&site, stop, pick)?, "at call {stop}");
+        }
+    }
     Ok(())
 }
