@@ -147,3 +147,20 @@ fn limits_end_a_run(rt: HostRuntime) -> Result<(), Fail> {
     }
     Ok(())
 }
+
+#[test]
+fn an_epoch_has_so_many_ids(rt: HostRuntime) -> Result<(), Fail> {
+    let script =
+        b"address A max 1000 page 1 ahead 0 dup 0\nsend A body x\nqueue Q on A\nsend A body x\nsend A body x\nsend A body x\ncount Q\n";
+    let limits = Limits {
+        ids: 2,
+        epochs: LIMITS.epochs,
+        input: LIMITS.input,
+    };
+    let mut site = MemSite::new(rt.alloc());
+    let mut source = MemSource::new(rt.alloc(), script)?;
+    assert_eq!(rt; serve(rt.alloc(), &mut source, &mut site, &limits), 0);
+    let replies = b"ok\nunrouted\nok\nsent 1-1\nsent 1-2\nno line\ncount 2\n";
+    assert_eq!(rt; site.told(), replies.as_slice());
+    Ok(())
+}
