@@ -164,3 +164,25 @@ fn an_epoch_has_so_many_ids(rt: HostRuntime) -> Result<(), Fail> {
     assert_eq!(rt; site.told(), replies.as_slice());
     Ok(())
 }
+
+#[test]
+fn a_further_address_than_there_may_be_is_refused(rt: HostRuntime) -> Result<(), Fail> {
+    let mut script = Vec::new(rt.alloc());
+    let mut replies = Vec::new(rt.alloc());
+    for number in 0..1001u32 {
+        let line = format!(in rt.alloc(); "address a{number} max 0 page 1 ahead 0 dup 0\n")?;
+        script.extend_from_slice(line.as_bytes())?;
+        replies.extend_from_slice(if number < 1000 {
+            b"ok\n".as_slice()
+        } else {
+            b"no line\n".as_slice()
+        })?;
+    }
+    // A name that is taken is told before that.
+    script.extend_from_slice(b"address a7 max 0 page 1 ahead 0 dup 0\n")?;
+    replies.extend_from_slice(b"no name\n")?;
+    let mut site = MemSite::new(rt.alloc());
+    assert_eq!(rt; run(rt.alloc(), &mut site, script.as_slice())?, 0);
+    assert_eq!(rt; site.told(), replies.as_slice());
+    Ok(())
+}
