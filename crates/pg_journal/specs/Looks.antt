@@ -1,0 +1,77 @@
+-- What the search for the journal does to the files, and what a crash leaves meanwhile.
+use Rattle.std.specs.Prelude.{◌≡◌, ◌≢◌, ◌⊎◌, ◌+◌, ◌++◌, ◌∷◌, ℕ, List, [], Option, Some, None}
+use Rattle.std.specs.FinMap.{FinMap, get}
+use Rattle.std.specs.List.{Contains}
+use Rattle.pg_disk.specs.declared.fault.Fault.{Fault}
+use Rattle.pg_disk.specs.declared.fault.Fault.TheVariants.{Failed, Damaged, Spent, Memory}
+use Rattle.pg_disk.specs.declared.fault.Rule.TheVariants.{Cut}
+use Rattle.pg_disk.specs.declared.file_id.FileId.{FileId}
+use Rattle.pg_disk.specs.declared.file_id.Kind.TheVariants.{Journal as OfJournal}
+use Rattle.pg_disk.specs.Account.{FileState, Account, account, IsHonest, IsQuiet}
+use Rattle.pg_disk.specs.Files.{file_cmp, Files}
+use Rattle.pg_disk.specs.Image.{IsFileThere, IsLeftAt}
+use Rattle.pg_gate.specs.Gated.{Batches, HasBatches, HasNone}
+use Rattle.pg_gate.specs.Spans.{IsCut, StaysOrMends, spans_of}
+use Rattle.pg_gate.specs.declared.spans.Span.{Span}
+use Rattle.pg_journal.specs.declared.journal.Journal.{Journal}
+use Rattle.pg_journal.specs.Generations.{as_read, as_left, first_generation, GoesOn, HasNoneThere, IsAscending, IsGeneration, JournalOf}
+use Rattle.pg_journal.specs.Stands.{AreQuiet, Stands, StaysOrSettles, name_of}
+
+-- these are the generations that are there, in their order
+pub record AreGenerations (generations : List FileId) (files : FinMap file_cmp FileState) : Type 0 where
+  pub ascending : IsAscending generations
+  pub there : (file : FileId) → Contains generations file → (file.kind ≡ OfJournal) × IsFileThere file files
+  pub all : (file : FileId) → file.kind ≡ OfJournal → Contains generations file ⊎ (get files file ≡ None)
+
+-- Bytes of files were read, and a generation that was there kept its bytes unless it was mended. The first generation may have been laid. Nothing else changed.
+pub record ReadsGenerations (old new : Account) : Type 0 where
+  pub told : new.told ≡ old.told
+  pub count : ℕ
+  pub taken : new.taken ≡ old.taken + count
+  pub others : (file : FileId) → file.kind ≢ OfJournal → get new.files file ≡ get old.files file
+  pub generations : (file : FileId) → file.kind ≡ OfJournal → StaysOrMends (get old.files file) (get new.files file)
+  pub made : (file : FileId) → file.kind ≡ OfJournal → get old.files file ≡ None → (get new.files file ≡ None) ⊎ (file ≡ first_generation)
+
+-- A crash leaves the batches of a generation of which nothing is pending, and no batch of one that isn't there.
+abbrev pub KeepsGeneration : Option FileState → Option (List ℕ) → Type 0
+KeepsGeneration None left = HasNone left
+KeepsGeneration (Some s) left = IsQuiet s → (batches : List (List ℕ)) → Batches s.bytes batches → HasBatches batches left
+
+-- Every file that is no generation is as a crash may leave it, each generation keeps its batches, none but the first is made, and the journal says what
+-- it said, where nothing of it was pending.
+pub record LeavesJournal (tells : Option Account) (image : Files) (told : List ℕ) : Type 0 where
+  pub honest : IsHonest tells
+  pub nothing : told ≡ (account tells).told
+  pub others : (file : FileId) → file.kind ≢ OfJournal → IsLeftAt (get (account tells).files file) (get image file)
+  pub generations : (file : FileId) → file.kind ≡ OfJournal → KeepsGeneration (get (account tells).files file) (get image file)
+  pub made : (file : FileId) → file.kind ≡ OfJournal → get (account tells).files file ≡ None → (get image file ≡ None) ⊎ (file ≡ first_generation)
+  pub says : AreQuiet (account tells).files → (batches : List (List ℕ)) → JournalOf (as_read (account tells).files) batches → JournalOf (as_left image) batches
+
+-- Each other file is as a crash may leave it, and the journal says what it said, or that and the batch.
+pub record LeavesOldOrNew (journal : Journal) (batch : List ℕ) (tells : Option Account) (image : Files) (told : List ℕ) : Type 0 where
+  pub honest : IsHonest tells
+  pub nothing : told ≡ (account tells).told
+  pub others : (file : FileId) → file ≢ name_of journal → IsLeftAt (get (account tells).files file) (get image file)
+  pub says : (batches : List (List ℕ)) → Stands journal batches (account tells).files → JournalOf (as_left image) batches ⊎ JournalOf (as_left image) (batches ++ batch ∷ [])
+
+-- a generation is cut there
+pub record IsCutAt (files : FinMap file_cmp FileState) (file : FileId) (at : ℕ) : Type 0 where
+  pub state : FileState
+  pub there : get files file ≡ Some state
+  pub cut : IsCut state.bytes at
+
+-- damage is that a generation is cut, at the gate of the offset
+abbrev pub IsCutGeneration : Option Account → Fault → Type 0
+IsCutGeneration tells Failed = Unit {0}
+IsCutGeneration tells (Damaged damage) = (damage.file.kind ≡ OfJournal) × (damage.rule ≡ Cut) × (IsHonest tells → IsCutAt (account tells).files damage.file damage.at)
+IsCutGeneration tells Spent = ⊥
+IsCutGeneration tells Memory = Unit {0}
+
+-- what was found: what the journal says, with the places of its payloads, its file, and what became of the other generations
+pub record IsFound (journal : Journal) (spans : List Span) (old now : FinMap file_cmp FileState) : Type 0 where
+  pub batches : List (List ℕ)
+  pub says : JournalOf (as_read old) batches
+  pub stands : Stands journal batches now
+  pub places : spans ≡ spans_of 0 batches
+  pub goes_on : GoesOn (as_read old) (name_of journal)
+  pub others : (file : FileId) → file.kind ≡ OfJournal → file ≢ name_of journal → StaysOrSettles (get old file) (get now file)

@@ -1,0 +1,36 @@
+// The generations of the journal that are there.
+ghost use Rattle.std.specs.Prelude.{◌≡◌, IfOk, IfErr};
+ghost use Rattle.std.specs.List.{filter};
+ghost use Rattle.std.specs.List.Sorted.{IsPermutation};
+ghost use Rattle.pg_disk.specs.Account.{account, IsHonest};
+ghost use Rattle.pg_disk.specs.Calls.{Changes, Reads};
+ghost use Rattle.pg_disk.specs.Counts.{CountsFault};
+ghost use Rattle.pg_disk.specs.Image.{Leaves};
+ghost use Rattle.pg_disk.specs.Moments.{Within};
+ghost use Rattle.pg_journal.specs.Generations.{is_generation, IsAscending};
+ghost use Rattle.pg_journal.specs.Looks.{AreGenerations, IsCutGeneration};
+
+use pg_disk::{Disk, Fault, FileId, Kind};
+use std::alloc::{AllocError, Global};
+
+// The generations among the files, ascending by number and then by owner.
+fn sorted_generations(mut files: Vec<FileId>) -> Result<Vec<FileId>, AllocError>
+    ensures same { IfOk result (λ found. IsPermutation (filter is_generation files.items) found.items) }
+    ensures ascending { IfOk result (λ found. IsAscending found.items) }
+{
+    files.retain(|file| file.kind == Kind::Journal);
+    files.sort_by_key(|file| (file.number, file.owner))?;
+    Ok(files)
+}
+
+// The generations that are there, ascending by number and then by owner.
+pub(crate) fn generations<D: Disk>(alloc: Global, disk: &mut D) -> Result<Vec<FileId>, Fault>
+    ensures listed { IfOk result (λ found. IsHonest (D.tells disk.old) → AreGenerations found.items (account (D.tells disk.old)).files) }
+    ensures same { Changes (D.tells disk.old) (D.tells disk.new) (Reads 0) }
+    ensures any_moment { Within D.moment D.left_since disk.old disk.new (Leaves (D.tells disk.old)) }
+    ensures undamaged { IfErr result (IsCutGeneration (D.tells disk.old)) }
+    ensures cause { CountsFault (D.faults disk.old) (D.faults disk.new) result }
+{
+    let files = disk.list(alloc)?;
+    Ok(sorted_generations(files)?)
+}
