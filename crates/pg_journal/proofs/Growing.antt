@@ -1,0 +1,79 @@
+-- What the journal says while a batch is added.
+use Rattle.std.proofs.Common.{◌≡◌, ◌≢◌, ◌⊎◌, inl, inr, ⊎_elim, ℕ, ◌+◌, ◌^◌, ◌≤◌, ◌<◌, List, [], ◌∷◌, ◌++◌, length, Option, Some, None, refl, sym, ◌∙◌, ap, subst, arith}
+use Rattle.std.proofs.lemmas.List.Elements.{All-push}
+use Rattle.std.specs.FinMap.{get}
+use Rattle.pg_disk.specs.declared.file_id.FileId.{FileId}
+use Rattle.pg_disk.specs.declared.file_id.Kind.TheVariants.{Journal as OfJournal}
+use Rattle.pg_disk.specs.Files.{Files}
+use Rattle.pg_disk.specs.Account.{FileState, Account, account, IsHonest}
+use Rattle.pg_disk.specs.Calls.{Changes, ChangesFile}
+use Rattle.pg_disk.specs.Image.{Leaves, LeavesAt}
+use Rattle.pg_disk.specs.Moments.{Within}
+use Rattle.pg_disk.proofs.Runs.{started, weaker}
+use Rattle.pg_gate.specs.Gated.{HasOldOrNew, StandsFor, file_of}
+use Rattle.pg_gate.specs.declared.log.Rest.{Rest}
+use Rattle.pg_gate.proofs.Unique.{stands_fit}
+use Rattle.pg_journal.specs.declared.journal.Journal.{Journal}
+use Rattle.pg_journal.specs.Generations.{IsBefore}
+use Rattle.pg_journal.specs.Looks.{LeavesOldOrNew}
+use Rattle.pg_journal.specs.Stands.{name_of, IsIdle, Stands}
+use Rattle.pg_journal.proofs.Order.{not_itself_by}
+use Rattle.pg_journal.proofs.Saying.{says_of, stands_says}
+
+some_pushed : (batches : List (List ℕ)) (batch : List ℕ) → batches ++ batch ∷ [] ≡ [] → batches ≡ []
+some_pushed [] batch e = refl
+some_pushed (p ∷ ps) batch e = cc
+
+module _ (journal : Journal) (batch : List ℕ) where
+  -- what a crash leaves of the journal's file meanwhile
+  abbrev pub Grows : Option Account → Option (List ℕ) → Type 0
+  Grows tells left = (batches : List (List ℕ)) → StandsFor journal.rest batches (get (account tells).files (name_of journal)) → HasOldOrNew batches batch left
+
+  still_old : (tells : Option Account) (c : Files) (b : List ℕ) → Leaves tells c b → LeavesOldOrNew journal batch tells c b
+  still_old tells c b left = record {
+    honest = left.honest;
+    nothing = left.told;
+    others = λ file other. left.image file;
+    says = λ batches stands. inl (stands_says journal batches (account tells).files stands c (left.image (name_of journal)) (λ file kind other. inl (left.image file)));
+  }
+
+  old_or_new : (tells : Option Account) → length batch < 2 ^ 64 → (c : Files) (b : List ℕ) → LeavesAt (name_of journal) (Grows tells) tells c b → LeavesOldOrNew journal batch tells c b
+  old_or_new tells short c b left = record {
+    honest = left.honest;
+    nothing = left.told;
+    others = left.others;
+    says = λ batches stands.
+        let fit = stands_fit journal.rest batches (get (account tells).files (name_of journal)) stands.stands in
+        ⊎_elim (λ has. inl (says_of journal batches (account tells).files stands c batches (λ e. e) fit has (λ file kind other. inl (left.others file other))))
+        (λ has. inr (says_of journal batches (account tells).files stands c (batches ++ batch ∷ []) (some_pushed batches batch) (All-push (λ payload. length payload < 2 ^ 64) batches batch fit short) has (λ file kind other. inl (left.others file other))))
+        (left.file batches stands.stands);
+  }
+
+  module _ {D : Type 0} (moment : D → ℕ) (left_since : D → ℕ → Files → List ℕ → Type 0) (tells : D → Option Account) (old : D) (law : (c : Files) (b : List ℕ) → left_since old (moment old) c b → Leaves (tells old) c b) where
+    abbrev P : Files → List ℕ → Type 0
+    P = LeavesOldOrNew journal batch (tells old)
+
+    -- where the batch is too long nothing happens
+    pub in_append : (new : D) (n : ℕ) → (2 ^ 62 < n + length batch + 9 → new ≡ old) → Within moment left_since old new (LeavesAt (name_of journal) (Grows (tells old)) (tells old)) → Within moment left_since old new P
+    in_append new n untouched run = elim (short_or_long (n + length batch + 9) (2 ^ 62)) [
+      | inl short ↦ weaker moment left_since old new _ P run (old_or_new (tells old) (omega (arith, short)))
+      | inr long ↦ subst (λ d. Within moment left_since old d P) (sym (untouched long)) (started moment left_since old P (λ c b left. still_old (tells old) c b (law c b left)))
+    ]
+      where
+        short_or_long : (a b : ℕ) → (a ≤ b) ⊎ (b < a)
+        short_or_long a b = grind arith
+
+  -- once it is added
+  pub all_grown : (old new : Option Account) (next : Rest) → file_of next ≡ name_of journal
+      → Changes old new (ChangesFile (name_of journal) (λ s t. (batches : List (List ℕ)) → StandsFor journal.rest batches s → StandsFor next (batches ++ batch ∷ []) t)) → IsHonest old → (batches : List (List ℕ)) → Stands journal batches (account old).files
+      → Stands (record { rest = next }) (batches ++ batch ∷ []) (account new).files
+  all_grown old new next same change honest batches stands =
+      let step = change.step honest in
+      record {
+        kind = subst (λ (f : FileId). f.kind ≡ OfJournal) (sym same) stands.kind;
+        stands = subst (λ f. StandsFor next (batches ++ batch ∷ []) (get (account new).files f)) (sym same) (step.file batches stands.stands);
+        last = λ file kind before.
+            let before_own = subst (λ f. IsBefore f file) same before in
+            subst IsIdle (sym (step.others file (λ own. not_itself_by (name_of journal) file own before_own))) (stands.last file kind before_own);
+        alone = λ none file kind other. let other_own = subst (λ f. file ≢ f) same other in subst IsIdle (sym (step.others file other_own)) (stands.alone (some_pushed batches batch none) file kind other_own);
+      }

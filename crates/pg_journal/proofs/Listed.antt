@@ -1,0 +1,57 @@
+-- The generations of the listing.
+use Rattle.std.proofs.Common.{◌≡◌, ◌⊎◌, inl, inr, ℕ, Bool, true, false, cond, List, [], ◌∷◌, Option, Some, None, refl, sym, ◌∙◌, ap, subst}
+use Rattle.std.specs.Prelude.{is_some, ◌||◌}
+use Rattle.std.specs.List.{Contains, filter, list_any}
+use Rattle.std.specs.List.Sorted.{IsPermutation}
+use Rattle.std.specs.Ordering.{eq_by_cmp}
+use Rattle.std.specs.FinMap.{FinMap, get, keys, contains_key, contains_key-keys}
+use Rattle.std.proofs.lemmas.Cmp.{eq_by_cmp_equiv}
+use Rattle.std.proofs.lemmas.List.Elements.{All-filter, All-contains, All-contains_itself, filter_passes}
+use Rattle.std.proofs.lemmas.List.Sorted.{Contains-permutation, IsPermutation-sym}
+use Rattle.std.proofs.lemmas.Map.Views.{Contains-from_any, list_any-from_Contains, tells_apart}
+use Rattle.pg_disk.specs.declared.file_id.FileId.{FileId}
+use Rattle.pg_disk.specs.declared.file_id.Kind.TheVariants.{Journal}
+use Rattle.pg_disk.specs.Account.{FileState}
+use Rattle.pg_disk.specs.Files.{file_cmp}
+use Rattle.pg_disk.specs.Image.{IsFileThere}
+use Rattle.pg_disk.proofs.FileOrder.{files_total, files_exact}
+use Rattle.pg_journal.specs.Generations.{is_generation, IsAscending}
+use Rattle.pg_journal.specs.Looks.{AreGenerations}
+use Rattle.pg_journal.proofs.Order.{is_kind, kind_is}
+
+-- what the filter keeps
+list_any-filter : (p test : FileId → Bool) (xs : List FileId) → ((x : FileId) → test x ≡ true → p x ≡ true) → list_any test xs ≡ true → list_any test (filter p xs) ≡ true
+list_any-filter p test [] keeps found = found
+list_any-filter p test (x ∷ xs) keeps found = step (p x) (test x) refl refl (list_any-filter p test xs keeps) found
+  where
+    never : false ≡ true → ⊥
+    never e = cc
+
+    step : (b c : Bool) → p x ≡ b → test x ≡ c → (list_any test xs ≡ true → list_any test (filter p xs) ≡ true) → (c || list_any test xs) ≡ true → list_any test (cond b (x ∷ filter p xs) (filter p xs)) ≡ true
+    step true true kept is more any = ap (λ t. t || list_any test (filter p xs)) is
+    step true false kept is more any = ap (λ t. t || list_any test (filter p xs)) is ∙ more any
+    step false true kept is more any = absurd (never (sym kept ∙ keeps x is))
+    step false false kept is more any = more any
+
+module _ (files : FinMap file_cmp FileState) (ids : List FileId) (is : ids ≡ keys files) where
+  there_any : (file : FileId) → list_any (eq_by_cmp file_cmp file) ids ≡ is_some (get files file)
+  there_any file = ap (λ l. list_any (eq_by_cmp file_cmp file) l) is ∙ sym (contains_key-keys files file)
+
+  some_there : (o : Option FileState) → is_some o ≡ true → (s : FileState) × (o ≡ Some s)
+  some_there None e = cc
+  some_there (Some s) e = (s, refl)
+
+  pub are_generations : (found : List FileId) → IsPermutation (filter is_generation ids) found → IsAscending found → AreGenerations found files
+  are_generations found same ascending = record { ascending = ascending; there = there; all = λ file kind. all file kind (get files file) refl }
+    where
+      there : (file : FileId) → Contains found file → (file.kind ≡ Journal) × IsFileThere file files
+      there file is_in =
+          let kept = Contains-permutation found (filter is_generation ids) file (IsPermutation-sym (filter is_generation ids) found same) is_in in
+          let listed = All-contains (Contains ids) (filter is_generation ids) file (All-filter is_generation (Contains ids) ids (All-contains_itself ids)) kept in
+          (is_kind file.kind (All-contains (λ x. is_generation x ≡ true) (filter is_generation ids) file (filter_passes is_generation ids) kept),
+          some_there (get files file) (sym (there_any file) ∙ list_any-from_Contains (eq_by_cmp_equiv files_total) file ids listed))
+
+      all : (file : FileId) → file.kind ≡ Journal → (o : Option FileState) → get files file ≡ o → Contains found file ⊎ (get files file ≡ None)
+      all file kind None e = inr e
+      all file kind (Some s) e = inl (Contains-permutation (filter is_generation ids) found file same (Contains-from_any (tells_apart files_exact) file (filter is_generation ids)
+          (list_any-filter is_generation (eq_by_cmp file_cmp file) ids (λ x tied. subst (λ f. is_generation f ≡ true) (tells_apart files_exact file x tied) (kind_is file.kind kind)) (there_any file ∙ ap is_some e))))
