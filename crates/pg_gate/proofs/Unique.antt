@@ -66,7 +66,7 @@ batches_unique bytes xs ys fit fits (inl none) (inr some) = none.1 ∙ short_non
 batches_unique bytes xs ys fit fits (inr some) (inl none) = sym (short_none bytes xs some.0 some.1 none.0 some.3) ∙ sym none.1
 batches_unique bytes xs ys fit fits (inr some) (inr same) = opened_unique xs ys some.0 same.0 some.1 same.1 fit fits some.2 same.2 (sym some.3 ∙ same.3)
 
-none_fit : AllFit []
+pub none_fit : AllFit []
 none_fit = λ k d none. absurd (omega (arith, none))
 
 pub opened_fit : (batches : List (List ℕ)) (n : ℕ) → length (opened batches) ≤ n → n < 2 ^ 64 → AllFit batches

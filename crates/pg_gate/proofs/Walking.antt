@@ -118,9 +118,13 @@ pub walked_front : (bytes : List ℕ) (gate : ℕ) (spans : List Span) → gate 
 walked_front bytes gate spans within walked = holds_join bytes (opened walked.so_far.batches) _ 0 gate (omega (arith, walked.so_far.place)) walked.so_far.stands (holds_one bytes gate within)
 
 -- the batches end at a gate that isn't open
-pub walked_spans : (bytes : List ℕ) (gate : ℕ) (spans : List Span) → gate < length bytes → IsWalked bytes gate spans → HasSpans bytes spans
-walked_spans bytes gate spans within walked =
-    record { batches = walked.so_far.batches; are = batches_from bytes walked.so_far.batches (get_or bytes gate 0) walked.shut (walked_front bytes gate spans within walked); places = walked.so_far.places }
+pub walked_spans : (bytes : List ℕ) (gate : ℕ) (spans : List Span) → gate < length bytes → gate < 2 ^ 64 → IsWalked bytes gate spans → HasSpans bytes spans
+walked_spans bytes gate spans within short walked = record {
+  batches = walked.so_far.batches;
+  are = batches_from bytes walked.so_far.batches (get_or bytes gate 0) walked.shut (walked_front bytes gate spans within walked);
+  fit = opened_fit walked.so_far.batches gate (omega (arith, walked.so_far.place)) short;
+  places = walked.so_far.places;
+}
 
 -- an open gate behind batches, in a text that has batches, has one more behind it
 more_behind : (xs ys : List (List ℕ)) (h : ℕ) (d rest : List ℕ) → AllFit xs → AllFit ys → h ≢ 1 → get_or rest 0 0 ≡ 1 → opened xs ++ rest ≡ opened ys ++ h ∷ d

@@ -10,7 +10,7 @@ use Rattle.pg_disk.specs.Account.{FileState, Account, account, IsHonest, IsQuiet
 use Rattle.pg_disk.specs.Calls.{Holds}
 use Rattle.pg_gate.specs.declared.log.Rest.{Rest}
 use Rattle.pg_gate.specs.declared.spans.Span.{Span}
-use Rattle.pg_gate.specs.Gated.{opened, Batches, HasBatches, StandsFor, counted_length}
+use Rattle.pg_gate.specs.Gated.{opened, AllFit, Batches, HasBatches, StandsFor, counted_length}
 
 -- the places of the payloads of these batches, where the first gate stands at this offset
 abbrev pub spans_of : ℕ → List (List ℕ) → List Span
@@ -21,10 +21,11 @@ spans_of gate (payload ∷ batches) = record { at = gate + 9; length = length pa
 abbrev pub AsRead : FileId → Option Account → (List ℕ → Type 0) → Type 0
 AsRead file tells P = IsHonest tells → (s : FileState) → get (account tells).files file ≡ Some s → P s.bytes
 
--- the bytes have batches, and these are the places of their payloads
+-- the bytes have batches, whose lengths have their spelling, and these are the places of their payloads
 pub record HasSpans (bytes : List ℕ) (spans : List Span) : Type 0 where
   pub batches : List (List ℕ)
   pub are : Batches bytes batches
+  pub fit : AllFit batches
   pub places : spans ≡ spans_of 0 batches
 
 -- the gate at this offset is open, and a whole payload of this many bytes and a further gate stand behind it
