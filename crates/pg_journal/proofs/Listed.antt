@@ -1,13 +1,13 @@
 -- The generations of the listing.
 use Rattle.std.proofs.Common.{◌≡◌, ◌⊎◌, inl, inr, ℕ, Bool, true, false, cond, List, [], ◌∷◌, Option, Some, None, refl, sym, ◌∙◌, ap, subst}
 use Rattle.std.specs.Prelude.{is_some, ◌||◌}
-use Rattle.std.specs.List.{Contains, filter, list_any}
+use Rattle.std.specs.List.{All, Contains, filter, list_any}
 use Rattle.std.specs.List.Sorted.{IsPermutation}
 use Rattle.std.specs.Ordering.{eq_by_cmp}
 use Rattle.std.specs.FinMap.{FinMap, get, keys, contains_key, contains_key-keys}
 use Rattle.std.proofs.lemmas.Cmp.{eq_by_cmp_equiv}
-use Rattle.std.proofs.lemmas.List.Elements.{All-filter, All-contains, All-contains_itself, filter_passes}
-use Rattle.std.proofs.lemmas.List.Sorted.{Contains-permutation, IsPermutation-sym}
+use Rattle.std.proofs.lemmas.List.Elements.{All-filter, All-weaker, All-contains, All-contains_itself, filter_passes}
+use Rattle.std.proofs.lemmas.List.Sorted.{All-permutation, Contains-permutation, IsPermutation-sym}
 use Rattle.std.proofs.lemmas.Map.Views.{Contains-from_any, list_any-from_Contains, tells_apart}
 use Rattle.pg_disk.specs.declared.file_id.FileId.{FileId}
 use Rattle.pg_disk.specs.declared.file_id.Kind.TheVariants.{Journal}
@@ -32,6 +32,11 @@ list_any-filter p test (x ∷ xs) keeps found = step (p x) (test x) refl refl (l
     step true false kept is more any = ap (λ t. t || list_any test (filter p xs)) is ∙ more any
     step false true kept is more any = absurd (never (sym kept ∙ keeps x is))
     step false false kept is more any = more any
+
+-- each of the generations is one
+pub all_kinds : (ids found : List FileId) → IsPermutation (filter is_generation ids) found → All (λ file. file.kind ≡ Journal) found
+all_kinds ids found same = All-permutation (λ file. file.kind ≡ Journal) (filter is_generation ids) found same
+    (All-weaker (λ file. is_generation file ≡ true) (λ file. file.kind ≡ Journal) (λ file is. is_kind file.kind is) (filter is_generation ids) (filter_passes is_generation ids))
 
 module _ (files : FinMap file_cmp FileState) (ids : List FileId) (is : ids ≡ keys files) where
   there_any : (file : FileId) → list_any (eq_by_cmp file_cmp file) ids ≡ is_some (get files file)

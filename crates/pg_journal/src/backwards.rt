@@ -1,5 +1,5 @@
 // The generations are gone through from the last one back, until one has a batch.
-ghost use Rattle.std.specs.Prelude.{◌≡◌, ℕ, IfOk, IfErr, MatchOption};
+ghost use Rattle.std.specs.Prelude.{◌≡◌, ℕ, All, IfOk, IfErr, MatchOption};
 ghost use Rattle.pg_disk.specs.Account.{account, IsHonest};
 ghost use Rattle.pg_disk.specs.Calls.{Changes, Reads};
 ghost use Rattle.pg_disk.specs.Counts.{CountsFault};
@@ -10,7 +10,7 @@ ghost use Rattle.pg_journal.specs.Generations.{as_read, HasNoGeneration, HasNone
 ghost use Rattle.pg_journal.specs.Looks.{AreGenerations, IsCutGeneration, IsFound, LeavesJournal, ReadsGenerations};
 
 use crate::Journal;
-use pg_disk::{Disk, Fault, FileId};
+use pg_disk::{Disk, Fault, FileId, Kind};
 use pg_gate::{Span, peek, scan};
 use std::alloc::Global;
 
@@ -20,7 +20,8 @@ pub(crate) fn scan_back<D: Disk>(
     disk: &mut D,
     mut generations: Vec<FileId>,
 ) -> Result<Option<(Journal, Vec<Span>)>, Fault>
-    requires { IsHonest (D.tells disk.old) → AreGenerations generations.items (account (D.tells disk.old)).files }
+    requires kinds { All (λ file. file.kind ≡ Kind.Journal) generations.items }
+    requires listed { IsHonest (D.tells disk.old) → AreGenerations generations.items (account (D.tells disk.old)).files }
     ensures found { IfOk result (λ o. IsHonest (D.tells disk.old) → MatchOption o
         (HasNoneThere (as_read (account (D.tells disk.new)).files))
         (λ found. IsFound found.0 found.1.items (account (D.tells disk.old)).files (account (D.tells disk.new)).files)) }
@@ -47,7 +48,8 @@ pub(crate) fn peek_back<D: Disk>(
     disk: &mut D,
     mut generations: Vec<FileId>,
 ) -> Result<Option<(FileId, Vec<Span>)>, Fault>
-    requires { IsHonest (D.tells disk.old) → AreGenerations generations.items (account (D.tells disk.old)).files }
+    requires kinds { All (λ file. file.kind ≡ Kind.Journal) generations.items }
+    requires listed { IsHonest (D.tells disk.old) → AreGenerations generations.items (account (D.tells disk.old)).files }
     ensures found { IfOk result (λ o. IsHonest (D.tells disk.old) → MatchOption o
         (HasNoGeneration (as_read (account (D.tells disk.old)).files))
         (λ found. (batches : _) × IsGeneration (as_read (account (D.tells disk.old)).files) found.0 batches × (found.1.items ≡ spans_of 0 batches))) }

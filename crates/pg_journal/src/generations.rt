@@ -1,5 +1,5 @@
 // The generations of the journal that are there.
-ghost use Rattle.std.specs.Prelude.{◌≡◌, IfOk, IfErr};
+ghost use Rattle.std.specs.Prelude.{◌≡◌, All, IfOk, IfErr};
 ghost use Rattle.std.specs.List.{filter};
 ghost use Rattle.std.specs.List.Sorted.{IsPermutation};
 ghost use Rattle.pg_disk.specs.Account.{account, IsHonest};
@@ -17,6 +17,7 @@ use std::alloc::{AllocError, Global};
 fn sorted_generations(mut files: Vec<FileId>) -> Result<Vec<FileId>, AllocError>
     ensures same { IfOk result (λ found. IsPermutation (filter is_generation files.items) found.items) }
     ensures ascending { IfOk result (λ found. IsAscending found.items) }
+    ensures kinds { IfOk result (λ found. All (λ file. file.kind ≡ Kind.Journal) found.items) }
 {
     files.retain(|file| file.kind == Kind::Journal);
     files.sort_by_key(|file| (file.number, file.owner))?;
@@ -25,6 +26,7 @@ fn sorted_generations(mut files: Vec<FileId>) -> Result<Vec<FileId>, AllocError>
 
 // The generations that are there, ascending by number and then by owner.
 pub(crate) fn generations<D: Disk>(alloc: Global, disk: &mut D) -> Result<Vec<FileId>, Fault>
+    ensures kinds { IfOk result (λ found. All (λ file. file.kind ≡ Kind.Journal) found.items) }
     ensures listed { IfOk result (λ found. IsHonest (D.tells disk.old) → AreGenerations found.items (account (D.tells disk.old)).files) }
     ensures same { Changes (D.tells disk.old) (D.tells disk.new) (Reads 0) }
     ensures any_moment { Within D.moment D.left_since disk.old disk.new (Leaves (D.tells disk.old)) }
