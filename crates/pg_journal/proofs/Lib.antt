@@ -1,8 +1,10 @@
 pub mod Cuts
 pub mod Growing
 pub mod Law
+pub mod Leaving
 pub mod Listed
 pub mod Order
 pub mod Peeking
 pub mod Saying
+pub mod Scanned
 pub mod Sorting

@@ -75,7 +75,7 @@ module _ (files : FinMap file_cmp FileState) (left : List FileId) (file : FileId
     last = λ other kind before. ⊎_elim (λ is_in. absurd (none_behind left file other so_far.ascending is_in before)) (λ none. none) (so_far.behind other kind);
   }
 
-contains_none : {X : Type 0} (x : X) → Contains [] x → ⊥
+pub contains_none : {X : Type 0} (x : X) → Contains [] x → ⊥
 contains_none x is_in = absurd (omega arith)
 
 -- where none is left none has a batch

@@ -23,7 +23,7 @@ pub(crate) fn scan_back<D: Disk>(
     requires kinds { All (λ file. file.kind ≡ Kind.Journal) generations.items }
     requires listed { IsHonest (D.tells disk.old) → AreGenerations generations.items (account (D.tells disk.old)).files }
     ensures found { IfOk result (λ o. IsHonest (D.tells disk.old) → MatchOption o
-        (HasNoneThere (as_read (account (D.tells disk.new)).files))
+        (HasNoneThere (as_read (account (D.tells disk.old)).files) × HasNoneThere (as_read (account (D.tells disk.new)).files))
         (λ found. IsFound found.0 found.1.items (account (D.tells disk.old)).files (account (D.tells disk.new)).files)) }
     ensures stays { Changes (D.tells disk.old) (D.tells disk.new) ReadsGenerations }
     ensures any_moment { Within D.moment D.left_since disk.old disk.new (LeavesJournal (D.tells disk.old)) }
