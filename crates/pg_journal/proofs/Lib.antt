@@ -6,5 +6,6 @@ pub mod Listed
 pub mod Order
 pub mod Peeking
 pub mod Saying
+pub mod ScanStep
 pub mod Scanned
 pub mod Sorting

@@ -78,10 +78,6 @@ module _ (files : FinMap file_cmp FileState) (left : List FileId) (file : FileId
 pub contains_none : {X : Type 0} (x : X) → Contains [] x → ⊥
 contains_none x is_in = absurd (omega arith)
 
--- where none is left none has a batch
-pub all_peeked : (files : FinMap file_cmp FileState) → IsPeekedTo [] files → HasNoGeneration (as_read files)
-all_peeked files so_far file kind = ⊎_elim (λ is_in. absurd (contains_none file is_in)) (λ none. none) (so_far.behind file kind)
-
 -- one more is peeked, at a site whose files are as they were
 module _ (old mid : Option Account) (count : ℕ) (same : Changes old mid (Reads count)) (left : List FileId) (file : FileId) (so_far : IsHonest old → IsPeekedTo (left ++ file ∷ []) (account old).files)
     (spans : List Span) (n : ℕ) (size : n ≡ length spans) (places : AsRead file mid (λ bytes. HasSpans bytes spans)) where

@@ -49,7 +49,7 @@ quiet_says files image quiet keeps batches (inl found) = inl (found.0, record {
 quiet_says files image quiet keeps batches (inr none) = inr (λ file kind. keeps_none (get files file) (get image file) (quiet file kind) (keeps file kind) (none.0 file kind), none.1)
 
 -- nothing is left of a generation that is idle
-idle_left : (s : Option FileState) (left : Option (List ℕ)) → IsIdle s → IsLeftAt s left → HasNone left
+pub idle_left : (s : Option FileState) (left : Option (List ℕ)) → IsIdle s → IsLeftAt s left → HasNone left
 idle_left None None idle is = tt
 idle_left None (Some bytes) idle is = absurd is
 idle_left (Some s) left idle is = has_none left (rest_left (Some s) left idle.0 is [] idle.1)

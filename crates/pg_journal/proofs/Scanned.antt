@@ -198,6 +198,10 @@ module _ (old mid : FinMap file_cmp FileState) (left : List FileId) (file : File
           idle other kind before = ⊎_elim (λ is_in. absurd (none_behind left file other so_far.ascending is_in before))
               (λ settles. subst IsIdle (sym (others other (λ same. not_itself_by file other same before))) (settles_idle (get old other) (get mid other) settles)) (so_far.behind other kind)
 
+pub none_left : (left : List FileId) → length left ≡ 0 → left ≡ []
+none_left [] none = refl
+none_left (file ∷ left) none = absurd (omega (arith, none))
+
 -- where none is left
 module _ (old now : FinMap file_cmp FileState) where
   all_settled : (last : Option (Journal × Vec Span Global)) → IsScannedTo [] last old now → (file : FileId) → file.kind ≡ OfJournal → Settles (get old file) (get now file)
