@@ -130,10 +130,12 @@ module _ (old mid : Option Account) (stays : Changes old mid ReadsGenerations) (
       → JournalOf (as_read (account old).files) [] × Stands (record { rest = rest }) [] (account new).files
   all_laid new rest own laid honest =
       let b = laid.step (stays.kept honest) in
-      let idle : (file : FileId) → file.kind ≡ OfJournal → file ≢ first_generation → IsIdle (get (account new).files file) = λ file kind other. subst IsIdle (sym (b.others file other ∙ absent_now honest file kind)) tt in
-      (inr (λ file kind. subst HasNone (sym (before honest file kind)) tt, refl), record {
-        kind = ap (λ (f : FileId). f.kind) own;
-        stands = subst (λ f. StandsFor rest [] (get (account new).files f)) (sym own) b.file;
-        last = λ file kind behind. idle file kind (λ same. not_itself_by (file_of rest) file (same ∙ sym own) behind);
-        alone = λ none file kind other. idle file kind (λ same. other (same ∙ sym own));
-      })
+      let idle : (file : FileId) → file.kind ≡ OfJournal → file ≢ first_generation → IsIdle (get (account new).files file) = λ file kind other. subst IsIdle (sym (b.others file other ∙ absent_now honest file kind)) tt in (
+        inr (λ file kind. subst HasNone (sym (before honest file kind)) tt, refl),
+        record {
+          kind = ap (λ (f : FileId). f.kind) own;
+          stands = subst (λ f. StandsFor rest [] (get (account new).files f)) (sym own) b.file;
+          last = λ file kind behind. idle file kind (λ same. not_itself_by (file_of rest) file (same ∙ sym own) behind);
+          alone = λ none file kind other. idle file kind (λ same. other (same ∙ sym own));
+        },
+      )

@@ -52,9 +52,10 @@ module _ (files : FinMap file_cmp FileState) (ids : List FileId) (is : ids ≡ k
       there : (file : FileId) → Contains found file → (file.kind ≡ Journal) × IsFileThere file files
       there file is_in =
           let kept = Contains-permutation found (filter is_generation ids) file (IsPermutation-sym (filter is_generation ids) found same) is_in in
-          let listed = All-contains (Contains ids) (filter is_generation ids) file (All-filter is_generation (Contains ids) ids (All-contains_itself ids)) kept in
-          (is_kind file.kind (All-contains (λ x. is_generation x ≡ true) (filter is_generation ids) file (filter_passes is_generation ids) kept),
-          some_there (get files file) (sym (there_any file) ∙ list_any-from_Contains (eq_by_cmp_equiv files_total) file ids listed))
+          let listed = All-contains (Contains ids) (filter is_generation ids) file (All-filter is_generation (Contains ids) ids (All-contains_itself ids)) kept in (
+            is_kind file.kind (All-contains (λ x. is_generation x ≡ true) (filter is_generation ids) file (filter_passes is_generation ids) kept),
+            some_there (get files file) (sym (there_any file) ∙ list_any-from_Contains (eq_by_cmp_equiv files_total) file ids listed),
+          )
 
       all : (file : FileId) → file.kind ≡ Journal → (o : Option FileState) → get files file ≡ o → Contains found file ⊎ (get files file ≡ None)
       all file kind None e = inr e

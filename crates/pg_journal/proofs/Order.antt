@@ -36,10 +36,10 @@ in_order a b ka kb = elim (compare a.number b.number) [
   | inl less ↦ inl (inl (inl less))
   | inr (inl more) ↦ inl (inr (inl more))
   | inr (inr same) ↦ elim (compare a.owner b.owner) [
-      | inl less ↦ inl (inl (inr (same, less)))
-      | inr (inl more) ↦ inl (inr (inr (sym same, more)))
-      | inr (inr one) ↦ inr (λ i. record { kind = (ka ∙ sym kb) i; owner = one i; number = same i })
-    ]
+    | inl less ↦ inl (inl (inr (same, less)))
+    | inr (inl more) ↦ inl (inr (inr (sym same, more)))
+    | inr (inr one) ↦ inr (λ i. record { kind = (ka ∙ sym kb) i; owner = one i; number = same i })
+  ]
 ]
 
 pub is_kind : (kind : Kind) → is_of_journal kind ≡ true → kind ≡ Journal

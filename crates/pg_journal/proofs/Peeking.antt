@@ -94,10 +94,11 @@ module _ (old mid : Option Account) (count : ℕ) (same : Changes old mid (Reads
   pub now_found : false ≡ (n == 0) → IsHonest old → (batches : List (List ℕ)) × IsGeneration (as_read (account old).files) file batches × (spans ≡ spans_of 0 batches)
   now_found some honest =
       let there = last_there (account old).files left file (so_far honest) in
-      let has = peeked honest in
-      (has.batches,
-      one_found (account old).files left file (so_far honest) has.batches (subst (λ o. HasBatches has.batches (bytes_of o)) (sym there.1.1) has.are) has.fit (some_placed spans n has.batches has.places size some),
-      has.places)
+      let has = peeked honest in (
+        has.batches,
+        one_found (account old).files left file (so_far honest) has.batches (subst (λ o. HasBatches has.batches (bytes_of o)) (sym there.1.1) has.are) has.fit (some_placed spans n has.batches has.places size some),
+        has.places,
+      )
 
 -- what is cut was cut at first
 pub was_cut : (old mid : Option Account) (count : ℕ) → Changes old mid (Reads count) → (file : FileId) → (IsHonest old → IsFileThere file (account old).files) → (at : ℕ) → AsRead file mid (λ bytes. IsCut bytes at) → IsHonest old

@@ -39,13 +39,16 @@ keeps_none (Some s) left quiet keeps none = has_none left (keeps quiet [] none)
 -- so the journal says what it said
 pub quiet_says : (files : FinMap file_cmp FileState) (image : Files) → AreQuiet files → ((file : FileId) → file.kind ≡ OfJournal → KeepsGeneration (get files file) (get image file))
     → (batches : List (List ℕ)) → JournalOf (as_read files) batches → JournalOf (as_left image) batches
-quiet_says files image quiet keeps batches (inl found) = inl (found.0, record {
-  kind = found.1.kind;
-  has = keeps_has (get files found.0) (get image found.0) batches (quiet found.0 found.1.kind) (keeps found.0 found.1.kind) found.1.has;
-  fit = found.1.fit;
-  some = found.1.some;
-  last = λ other kind before. keeps_none (get files other) (get image other) (quiet other kind) (keeps other kind) (found.1.last other kind before);
-})
+quiet_says files image quiet keeps batches (inl found) = inl (
+  found.0,
+  record {
+    kind = found.1.kind;
+    has = keeps_has (get files found.0) (get image found.0) batches (quiet found.0 found.1.kind) (keeps found.0 found.1.kind) found.1.has;
+    fit = found.1.fit;
+    some = found.1.some;
+    last = λ other kind before. keeps_none (get files other) (get image other) (quiet other kind) (keeps other kind) (found.1.last other kind before);
+  },
+)
 quiet_says files image quiet keeps batches (inr none) = inr (λ file kind. keeps_none (get files file) (get image file) (quiet file kind) (keeps file kind) (none.0 file kind), none.1)
 
 -- nothing is left of a generation that is idle
@@ -70,13 +73,16 @@ says_of journal batches files stands image [] as_before fit has others = inr (λ
     none : (file : FileId) → file.kind ≡ OfJournal → (file ≡ name_of journal) ⊎ (file ≢ name_of journal) → HasNone (get image file)
     none file kind (inl own) = subst (λ f. HasNone (get image f)) (sym own) (has_none (get image (name_of journal)) has)
     none file kind (inr other) = idle_or_gone (get files file) (get image file) (stands.alone (as_before refl) file kind other) (others file kind other)
-says_of journal batches files stands image (p ∷ ps) as_before fit has others = inl (name_of journal, record {
-  kind = stands.kind;
-  has = has;
-  fit = fit;
-  some = λ e. cc;
-  last = λ file kind before. idle_or_gone (get files file) (get image file) (stands.last file kind before) (others file kind (λ own. not_itself_by (name_of journal) file own before));
-})
+says_of journal batches files stands image (p ∷ ps) as_before fit has others = inl (
+  name_of journal,
+  record {
+    kind = stands.kind;
+    has = has;
+    fit = fit;
+    some = λ e. cc;
+    last = λ file kind before. idle_or_gone (get files file) (get image file) (stands.last file kind before) (others file kind (λ own. not_itself_by (name_of journal) file own before));
+  },
+)
 
 -- What a crash leaves says what the journal stands for, also where other generations are gone by then.
 pub stands_says : (journal : Journal) (batches : List (List ℕ)) (files : FinMap file_cmp FileState) → Stands journal batches files → (image : Files) → IsLeftAt (get files (name_of journal)) (get image (name_of journal))

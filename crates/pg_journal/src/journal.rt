@@ -65,14 +65,11 @@ impl Journal {
 
     /// The file that the journal is in, and the places of its payloads in their order, without changing anything. None
     /// where no generation has a batch. The errors are those of `find`.
-    pub fn peek<D: Disk>(
-        alloc: Global,
-        disk: &mut D,
-    ) -> Result<Option<(FileId, Vec<Span>)>, Fault>
+    pub fn peek<D: Disk>(alloc: Global, disk: &mut D) -> Result<Option<(FileId, Vec<Span>)>, Fault>
         ensures found { IfOk result (λ o. IsHonest (D.tells disk.old) → MatchOption o
             (HasNoGeneration (as_read (account (D.tells disk.old)).files))
             (λ found. (batches : _) × IsGeneration (as_read (account (D.tells disk.old)).files) found.0 batches
-                × (found.1.items ≡ spans_of 0 batches))) }
+            × (found.1.items ≡ spans_of 0 batches))) }
         ensures same { (n : ℕ) × Changes (D.tells disk.old) (D.tells disk.new) (Reads n) }
         ensures any_moment { Within D.moment D.left_since disk.old disk.new (Leaves (D.tells disk.old)) }
 

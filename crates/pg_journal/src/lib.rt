@@ -4,5 +4,7 @@
 mod backwards;
 mod generations;
 mod journal;
+#[cfg(test)]
+mod tests;
 
 pub use journal::Journal;

@@ -75,19 +75,19 @@ pub generations-preserved : goal.generations-preserved
 generations-preserved g c = record {
   kinds = (All-pop (λ (file : FileId). file.kind ≡ OfJournal) _ _ _ c.pop.ensures.items c.generations.invariant.kinds).0;
   stays = stays_then g.D.Disk.moment g.D.Disk.left_since g.D.Disk.tells c.args.disk.now c.generations.disk c.pop.new.self.items c.in-Some.file c.generations.last
-    (last_kind c.pop.new.self.items c.in-Some.file (subst (λ l. All (λ (file : FileId). file.kind ≡ OfJournal) l) c.in-Some.ensures.items c.generations.invariant.kinds)) c.generations.invariant.stays
-    (λ honest. subst (λ l. IsScannedTo l c.generations.last (account (g.D.Disk.tells c.args.disk.now)).files (account (g.D.Disk.tells c.generations.disk)).files) c.in-Some.ensures.items (c.generations.invariant.so_far honest))
-    c.scan.new.disk c.scan.ensures.stays;
+      (last_kind c.pop.new.self.items c.in-Some.file (subst (λ l. All (λ (file : FileId). file.kind ≡ OfJournal) l) c.in-Some.ensures.items c.generations.invariant.kinds)) c.generations.invariant.stays
+      (λ honest. subst (λ l. IsScannedTo l c.generations.last (account (g.D.Disk.tells c.args.disk.now)).files (account (g.D.Disk.tells c.generations.disk)).files) c.in-Some.ensures.items (c.generations.invariant.so_far honest))
+      c.scan.new.disk c.scan.ensures.stays;
   run = in_scan g.D.Disk.moment g.D.Disk.left_since g.D.Disk.tells c.args.disk.now c.generations.disk c.pop.new.self.items c.in-Some.file c.generations.last
-    (last_kind c.pop.new.self.items c.in-Some.file (subst (λ l. All (λ (file : FileId). file.kind ≡ OfJournal) l) c.in-Some.ensures.items c.generations.invariant.kinds)) c.generations.invariant.stays
-    (λ honest. subst (λ l. IsScannedTo l c.generations.last (account (g.D.Disk.tells c.args.disk.now)).files (account (g.D.Disk.tells c.generations.disk)).files) c.in-Some.ensures.items (c.generations.invariant.so_far honest))
-    c.scan.new.disk c.generations.invariant.run c.scan.ensures.any_moment;
+      (last_kind c.pop.new.self.items c.in-Some.file (subst (λ l. All (λ (file : FileId). file.kind ≡ OfJournal) l) c.in-Some.ensures.items c.generations.invariant.kinds)) c.generations.invariant.stays
+      (λ honest. subst (λ l. IsScannedTo l c.generations.last (account (g.D.Disk.tells c.args.disk.now)).files (account (g.D.Disk.tells c.generations.disk)).files) c.in-Some.ensures.items (c.generations.invariant.so_far honest))
+      c.scan.new.disk c.generations.invariant.run c.scan.ensures.any_moment;
   faults = c.in_ok-rest.ensures.cause ∙ c.generations.invariant.faults;
   so_far = λ honest. subst (λ found. IsScannedTo c.pop.new.self.items found (account (g.D.Disk.tells c.args.disk.now)).files (account (g.D.Disk.tells c.scan.new.disk)).files) (sym c.or-last.ensures)
-    (still_scanned g.D.Disk.moment g.D.Disk.left_since g.D.Disk.tells c.args.disk.now c.generations.disk c.pop.new.self.items c.in-Some.file c.generations.last
-    (last_kind c.pop.new.self.items c.in-Some.file (subst (λ l. All (λ (file : FileId). file.kind ≡ OfJournal) l) c.in-Some.ensures.items c.generations.invariant.kinds)) c.generations.invariant.stays
-    (λ honest. subst (λ l. IsScannedTo l c.generations.last (account (g.D.Disk.tells c.args.disk.now)).files (account (g.D.Disk.tells c.generations.disk)).files) c.in-Some.ensures.items (c.generations.invariant.so_far honest))
-    c.scan.new.disk c.scan.ensures.stays c.in_ok-rest.rest c.in_ok-rest.spans c.in_ok-rest.ensures.file c.in_ok-rest.ensures.scanned c.if-not-is_empty.ensures honest);
+      (still_scanned g.D.Disk.moment g.D.Disk.left_since g.D.Disk.tells c.args.disk.now c.generations.disk c.pop.new.self.items c.in-Some.file c.generations.last
+      (last_kind c.pop.new.self.items c.in-Some.file (subst (λ l. All (λ (file : FileId). file.kind ≡ OfJournal) l) c.in-Some.ensures.items c.generations.invariant.kinds)) c.generations.invariant.stays
+      (λ honest. subst (λ l. IsScannedTo l c.generations.last (account (g.D.Disk.tells c.args.disk.now)).files (account (g.D.Disk.tells c.generations.disk)).files) c.in-Some.ensures.items (c.generations.invariant.so_far honest))
+      c.scan.new.disk c.scan.ensures.stays c.in_ok-rest.rest c.in_ok-rest.spans c.in_ok-rest.ensures.file c.in_ok-rest.ensures.scanned c.if-not-is_empty.ensures honest);
 }
 
 pub returns-clause-found : goal.returns-clause-found

@@ -16,7 +16,7 @@ returns-in_err-rest-clause-any_moment g c =
     (subst (λ (l : List ℕ). Within g.D.Disk.moment g.D.Disk.left_since c.args.disk.now c.append.new.disk (LeavesAt c.args.self.rest.file (Grows c.args.self l (g.D.Disk.tells c.args.disk.now)) (g.D.Disk.tells c.args.disk.now))) c.as_slice.ensures.value c.append.ensures.any_moment)
 
 pub returns-clause-stands : goal.returns-clause-stands
-returns-clause-stands g c = 
+returns-clause-stands g c =
     all_grown c.args.self c.args.batch.now (g.D.Disk.tells c.args.disk.now) (g.D.Disk.tells c.append.new.disk) c.in_ok-rest.rest c.in_ok-rest.ensures.file
     (subst (λ (l : List ℕ). Changes (g.D.Disk.tells c.args.disk.now) (g.D.Disk.tells c.append.new.disk) (ChangesFile c.args.self.rest.file (λ s t. (batches : List (List ℕ)) → StandsFor c.args.self.rest batches s → StandsFor c.in_ok-rest.rest (batches ++ l ∷ []) t))) c.as_slice.ensures.value c.in_ok-rest.ensures.appended)
 
