@@ -7,18 +7,18 @@ use Rattle.pg_disk.specs.declared.file_id.Kind.TheVariants.{Journal as OfJournal
 use Rattle.pg_disk.specs.Files.{Files}
 use Rattle.pg_disk.specs.Account.{FileState, Account, account, IsHonest}
 use Rattle.pg_disk.specs.Calls.{Changes, ChangesFile}
-use Rattle.pg_disk.specs.Image.{Leaves, LeavesAt}
+use Rattle.pg_disk.specs.Image.{Leaves, LeavesAt, OthersLeft}
 use Rattle.pg_disk.specs.Moments.{Within}
 use Rattle.pg_disk.proofs.Runs.{started, weaker}
-use Rattle.pg_gate.specs.Gated.{HasOldOrNew, StandsFor, file_of}
+use Rattle.pg_gate.specs.Gated.{HasNone, HasOldOrNew, StandsFor, file_of}
 use Rattle.pg_gate.specs.declared.log.Rest.{Rest}
 use Rattle.pg_gate.proofs.Unique.{stands_fit}
 use Rattle.pg_journal.specs.declared.journal.Journal.{Journal}
-use Rattle.pg_journal.specs.Generations.{IsBefore}
+use Rattle.pg_journal.specs.Generations.{as_left, IsBefore}
 use Rattle.pg_journal.specs.Looks.{LeavesOldOrNew}
 use Rattle.pg_journal.specs.Stands.{name_of, IsIdle, Stands}
 use Rattle.pg_journal.proofs.Order.{not_itself_by}
-use Rattle.pg_journal.proofs.Saying.{says_of, stands_says}
+use Rattle.pg_journal.proofs.Saying.{idle_left, says_of, stands_says}
 
 some_pushed : (batches : List (List ℕ)) (batch : List ℕ) → batches ++ batch ∷ [] ≡ [] → batches ≡ []
 some_pushed [] batch e = refl
@@ -37,6 +37,10 @@ module _ (journal : Journal) (batch : List ℕ) where
     says = λ batches stands. inl (stands_says journal batches (account tells).files stands c (left.image (name_of journal)) (λ file kind other. inl (left.image file)));
   }
 
+  -- a crash leaves no batch of another generation that is idle
+  still : (tells : Option Account) (c : Files) → OthersLeft (name_of journal) (account tells).files c → (file : FileId) → file.kind ≡ OfJournal → file ≢ name_of journal → IsIdle (get (account tells).files file) → HasNone (get c file)
+  still tells c others file kind other idle = idle_left (get (account tells).files file) (get c file) idle (others file other)
+
   old_or_new : (tells : Option Account) → length batch < 2 ^ 64 → (c : Files) (b : List ℕ) → LeavesAt (name_of journal) (Grows tells) tells c b → LeavesOldOrNew journal batch tells c b
   old_or_new tells short c b left = record {
     honest = left.honest;
@@ -44,8 +48,8 @@ module _ (journal : Journal) (batch : List ℕ) where
     others = left.others;
     says = λ batches stands.
         let fit = stands_fit journal.rest batches (get (account tells).files (name_of journal)) stands.stands in
-        ⊎_elim (λ has. inl (says_of journal batches (account tells).files stands c batches (λ e. e) fit has (λ file kind other. inl (left.others file other))))
-        (λ has. inr (says_of journal batches (account tells).files stands c (batches ++ batch ∷ []) (some_pushed batches batch) (All-push (λ payload. length payload < 2 ^ 64) batches batch fit short) has (λ file kind other. inl (left.others file other))))
+        ⊎_elim (λ has. inl (says_of journal batches (account tells).files stands (as_left c) batches (λ e. e) fit has (still tells c left.others)))
+        (λ has. inr (says_of journal batches (account tells).files stands (as_left c) (batches ++ batch ∷ []) (some_pushed batches batch) (All-push (λ payload. length payload < 2 ^ 64) batches batch fit short) has (still tells c left.others)))
         (left.file batches stands.stands);
   }
 

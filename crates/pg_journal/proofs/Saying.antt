@@ -65,30 +65,64 @@ idle_or_gone : (s : Option FileState) (left : Option (List ℕ)) → IsIdle s �
 idle_or_gone s left idle (inl is) = idle_left s left idle is
 idle_or_gone s left idle (inr gone) = subst HasNone (sym gone) tt
 
--- Where a journal's file has some batches, and the other generations are as a crash may leave them or gone, the journal says the batches.
-pub says_of : (journal : Journal) (batches : List (List ℕ)) (files : FinMap file_cmp FileState) → Stands journal batches files → (image : Files) (said : List (List ℕ)) → (said ≡ [] → batches ≡ []) → AllFit said
-    → HasBatches said (get image (name_of journal)) → ((file : FileId) → file.kind ≡ OfJournal → file ≢ name_of journal → IsLeftOrGone (get files file) (get image file)) → JournalOf (as_left image) said
-says_of journal batches files stands image [] as_before fit has others = inr (λ file kind. none file kind (same_or_not file (name_of journal)), refl)
+-- Where a journal's file has some batches and each other generation that is idle has none, the journal says the batches.
+pub says_of : (journal : Journal) (batches : List (List ℕ)) (files : FinMap file_cmp FileState) → Stands journal batches files → (contents : Contents) (said : List (List ℕ)) → (said ≡ [] → batches ≡ []) → AllFit said
+    → HasBatches said (contents (name_of journal)) → ((file : FileId) → file.kind ≡ OfJournal → file ≢ name_of journal → IsIdle (get files file) → HasNone (contents file)) → JournalOf contents said
+says_of journal batches files stands contents [] as_before fit has others = inr (λ file kind. none file kind (same_or_not file (name_of journal)), refl)
   where
-    none : (file : FileId) → file.kind ≡ OfJournal → (file ≡ name_of journal) ⊎ (file ≢ name_of journal) → HasNone (get image file)
-    none file kind (inl own) = subst (λ f. HasNone (get image f)) (sym own) (has_none (get image (name_of journal)) has)
-    none file kind (inr other) = idle_or_gone (get files file) (get image file) (stands.alone (as_before refl) file kind other) (others file kind other)
-says_of journal batches files stands image (p ∷ ps) as_before fit has others = inl (
-  name_of journal,
-  record {
-    kind = stands.kind;
-    has = has;
-    fit = fit;
-    some = λ e. cc;
-    last = λ file kind before. idle_or_gone (get files file) (get image file) (stands.last file kind before) (others file kind (λ own. not_itself_by (name_of journal) file own before));
-  },
-)
+    none : (file : FileId) → file.kind ≡ OfJournal → (file ≡ name_of journal) ⊎ (file ≢ name_of journal) → HasNone (contents file)
+    none file kind (inl own) = subst (λ f. HasNone (contents f)) (sym own) (has_none (contents (name_of journal)) has)
+    none file kind (inr other) = others file kind other (stands.alone (as_before refl) file kind other)
+says_of journal batches files stands contents (p ∷ ps) as_before fit has others = inl (name_of journal, record {
+  kind = stands.kind;
+  has = has;
+  fit = fit;
+  some = λ e. cc;
+  last = λ file kind before. others file kind (λ own. not_itself_by (name_of journal) file own before) (stands.last file kind before);
+})
 
 -- What a crash leaves says what the journal stands for, also where other generations are gone by then.
 pub stands_says : (journal : Journal) (batches : List (List ℕ)) (files : FinMap file_cmp FileState) → Stands journal batches files → (image : Files) → IsLeftAt (get files (name_of journal)) (get image (name_of journal))
     → ((file : FileId) → file.kind ≡ OfJournal → file ≢ name_of journal → IsLeftOrGone (get files file) (get image file)) → JournalOf (as_left image) batches
 stands_says journal batches files stands image own others =
-    says_of journal batches files stands image batches (λ e. e) (stands_fit journal.rest batches (get files (name_of journal)) stands.stands) (stands_left journal.rest batches (get files (name_of journal)) (get image (name_of journal)) stands.stands own) others
+    says_of journal batches files stands (as_left image) batches (λ e. e) (stands_fit journal.rest batches (get files (name_of journal)) stands.stands)
+    (stands_left journal.rest batches (get files (name_of journal)) (get image (name_of journal)) stands.stands own) (λ file kind other idle. idle_or_gone (get files file) (get image file) idle (others file kind other))
+
+-- And so do the files as they read.
+pub stands_reads : (journal : Journal) (batches : List (List ℕ)) (files : FinMap file_cmp FileState) → Stands journal batches files → JournalOf (as_read files) batches
+stands_reads journal batches files stands =
+    says_of journal batches files stands (as_read files) batches (λ e. e) (stands_fit journal.rest batches (get files (name_of journal)) stands.stands) (reads (get files (name_of journal)) stands.stands) (λ file kind other. none (get files file))
+  where
+    reads : (s : Option FileState) → StandsFor journal.rest batches s → HasBatches batches (bytes_of s)
+    reads None is = absurd is
+    reads (Some s) is = batches_from s.bytes batches is.front.closed is.front.shut is.front.holds
+
+    none : (s : Option FileState) → IsIdle s → HasNone (bytes_of s)
+    none None idle = tt
+    none (Some s) idle = idle.1
+
+-- Its file is there, and has the batches.
+pub stands_there : (journal : Journal) (batches : List (List ℕ)) (files : FinMap file_cmp FileState) → Stands journal batches files → (s : FileState) × (get files (name_of journal) ≡ Some s) × Batches s.bytes batches
+stands_there journal batches files stands = there (get files (name_of journal)) refl stands.stands
+  where
+    there : (o : Option FileState) → get files (name_of journal) ≡ o → StandsFor journal.rest batches o → (s : FileState) × (get files (name_of journal) ≡ Some s) × Batches s.bytes batches
+    there None e is = absurd is
+    there (Some s) e is = (s, e, batches_from s.bytes batches is.front.closed is.front.shut is.front.holds)
+
+-- Once it is found nothing of any generation is pending, where nothing was.
+pub found_quiet : (journal : Journal) (batches : List (List ℕ)) (old now : FinMap file_cmp FileState) → AreQuiet old → Stands journal batches now
+    → ((file : FileId) → file.kind ≡ OfJournal → file ≢ name_of journal → StaysOrSettles (get old file) (get now file)) → AreQuiet now
+found_quiet journal batches old now quiet stands others file kind = ⊎_elim (λ own. subst (λ f. IsQuietAt (get now f)) (sym own) (rests journal.rest.gate batches (get now (name_of journal)) stands.stands))
+    (λ other. stays (get old file) (get now file) (quiet file kind) (others file kind other)) (same_or_not file (name_of journal))
+  where
+    rests : (gate : ℕ) (bs : List (List ℕ)) (s : Option FileState) → RestsAt gate bs s → IsQuietAt s
+    rests gate bs None is = absurd is
+    rests gate bs (Some s) is = is.quiet
+
+    stays : (s t : Option FileState) → IsQuietAt s → StaysOrSettles s t → IsQuietAt t
+    stays s t is (inl same) = subst IsQuietAt (sym same) is
+    stays None t is (inr settles) = subst IsQuietAt (sym settles) tt
+    stays (Some s) t is (inr settles) = rests 0 [] t settles.1
 
 -- A journal stands for what it stood for while its file is as it was and each other generation is as it was or gone.
 pub stands_kept : (journal : Journal) (batches : List (List ℕ)) (old new : FinMap file_cmp FileState) → Stands journal batches old → get new (name_of journal) ≡ get old (name_of journal)
