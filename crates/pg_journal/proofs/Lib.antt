@@ -10,3 +10,4 @@ pub mod Saying
 pub mod ScanStep
 pub mod Scanned
 pub mod Sorting
+pub mod Taken

@@ -21,20 +21,26 @@ use Rattle.pg_journal.specs.Looks.{AreGenerations, IsCutAt}
 use Rattle.pg_journal.proofs.Cuts.{none_placed, some_placed}
 use Rattle.pg_journal.proofs.Order.{not_itself_by}
 
--- the generations without the last one
-pub front_ascending : (files : List FileId) (file : FileId) → IsAscending (files ++ file ∷ []) → IsAscending files
-front_ascending files file up i j d lt within before =
-    up i j d lt (omega (arith, within, length-append files (file ∷ [])))
-    (subst (λ f. IsBefore f (get_or (files ++ file ∷ []) i d)) (sym (get_or_append_left files (file ∷ []) d j within)) (subst (λ f. IsBefore (get_or files j d) f) (sym (get_or_append_left files (file ∷ []) d i (omega (arith, lt, within)))) before))
+module _ (R : FileId → FileId → Type 0) (files : List FileId) (file : FileId) (pairs : AllPairs R (files ++ file ∷ [])) where
+  -- the generations without the last one
+  pub front_pairs : AllPairs R files
+  front_pairs i j d lt within =
+      subst (λ f. R f (get_or files j d)) (get_or_append_left files (file ∷ []) d i (omega (arith, lt, within)))
+      (subst (λ f. R (get_or (files ++ file ∷ []) i d) f) (get_or_append_left files (file ∷ []) d j within) (pairs i j d lt (omega (arith, within, length-append files (file ∷ [])))))
 
--- and none of them comes behind the last one
+  -- and each of them with the last one
+  pub with_last : (other : FileId) → Contains files other → R other file
+  with_last other front =
+      subst (λ f. R f file) (get_or_append_left files (file ∷ []) other front.0 front.1 ∙ front.2)
+      (subst (λ f. R (get_or (files ++ file ∷ []) front.0 other) f) (get_or-append_seam files file [] other) (pairs front.0 (length files) other front.1 (omega (arith, length-append files (file ∷ [])))))
+
+abbrev pub InOrder : FileId → FileId → Type 0
+InOrder a b = IsBefore b a → ⊥
+
+-- none of the generations comes behind the last one
 pub none_behind : (files : List FileId) (file other : FileId) → IsAscending (files ++ file ∷ []) → Contains (files ++ file ∷ []) other → IsBefore file other → ⊥
-none_behind files file other up is_in before = ⊎_elim (λ (front : Contains files other). earlier front) (λ (own : file ≡ other). not_itself_by file other (sym own) before) (Contains-push_cases files file other is_in)
-  where
-    earlier : Contains files other → ⊥
-    earlier front =
-        up front.0 (length files) other (front.1) (omega (arith, length-append files (file ∷ [])))
-        (subst (λ f. IsBefore f (get_or (files ++ file ∷ []) front.0 other)) (sym (get_or-append_seam files file [] other)) (subst (λ f. IsBefore file f) (sym (get_or_append_left files (file ∷ []) other front.0 front.1 ∙ front.2)) before))
+none_behind files file other up is_in before =
+    ⊎_elim (λ front. with_last InOrder files file up other front before) (λ own. not_itself_by file other (sym own) before) (Contains-push_cases files file other is_in)
 
 -- the last of the generations is one
 pub last_kind : (files : List FileId) (file : FileId) → All (λ f. f.kind ≡ OfJournal) (files ++ file ∷ []) → file.kind ≡ OfJournal
@@ -60,7 +66,7 @@ module _ (files : FinMap file_cmp FileState) (left : List FileId) (file : FileId
   -- the last one has no batch either
   pub one_peeked : HasNone (as_read files file) → IsPeekedTo left files
   one_peeked none = record {
-    ascending = front_ascending left file so_far.ascending;
+    ascending = front_pairs InOrder left file so_far.ascending;
     there = λ other is_in. so_far.there other (Contains-append_left left (file ∷ []) other is_in);
     behind = λ other kind. ⊎_elim (λ is_in. ⊎_elim inl (λ own. inr (subst (λ f. HasNone (as_read files f)) own none)) (Contains-push_cases left file other is_in)) inr (so_far.behind other kind);
   }

@@ -4,7 +4,7 @@ use Rattle.std.specs.Prelude.{◌==◌, MatchOption}
 use Rattle.std.specs.Option.{option_or}
 use Rattle.std.specs.declared.alloc.Global.{Global}
 use Rattle.std.specs.FinMap.{FinMap, get}
-use Rattle.std.specs.List.{Contains}
+use Rattle.std.specs.List.{AllPairs, Contains}
 use Rattle.std.proofs.lemmas.List.Elements.{Contains-append_left, Contains-push, Contains-push_cases}
 use Rattle.pg_disk.specs.declared.file_id.FileId.{FileId}
 use Rattle.pg_disk.specs.declared.file_id.Kind.TheVariants.{Journal as OfJournal}
@@ -24,7 +24,7 @@ use Rattle.pg_journal.specs.Stands.{name_of, IsIdle, Settles, StaysOrSettles, St
 use Rattle.pg_journal.proofs.Cuts.{none_placed, some_placed}
 use Rattle.pg_journal.proofs.Law.{none_alone}
 use Rattle.pg_journal.proofs.Order.{same_or_not, not_itself_by}
-use Rattle.pg_journal.proofs.Peeking.{front_ascending, none_behind, contains_none}
+use Rattle.pg_journal.proofs.Peeking.{InOrder, front_pairs, with_last, none_behind, contains_none}
 
 -- a file at rest without a batch has none
 pub rests_none : (gate : ℕ) (s : FileState) → RestsAt gate [] (Some s) → Batches s.bytes []
@@ -86,6 +86,8 @@ LastOf left (Some found) old now = IsLast found.0 found.1.items old now
 -- These generations are left to be scanned, and each other one had no batch and is at rest without one.
 pub record IsScannedTo (left : List FileId) (found : Option (Journal × Vec Span Global)) (old now : FinMap file_cmp FileState) : Type 0 where
   pub ascending : IsAscending left
+  pub distinct : AllPairs (λ a b. a ≢ b) left
+  pub fresh : (file : FileId) → Contains left file → get now file ≡ get old file
   pub there : (file : FileId) → Contains left file → (file.kind ≡ OfJournal) × IsFileThere file old
   pub each : (file : FileId) → file.kind ≡ OfJournal → StaysOrSettles (get old file) (get now file)
   pub behind : (file : FileId) → file.kind ≡ OfJournal → Contains left file ⊎ Settles (get old file) (get now file)
@@ -94,6 +96,8 @@ pub record IsScannedTo (left : List FileId) (found : Option (Journal × Vec Span
 pub none_scanned : (generations : List FileId) (files : FinMap file_cmp FileState) → AreGenerations generations files → IsScannedTo generations None files files
 none_scanned generations files are = record {
   ascending = are.ascending;
+  distinct = are.distinct;
+  fresh = λ file is_in. refl;
   there = are.there;
   each = λ file kind. inl refl;
   behind = λ file kind. ⊎_elim inl (λ absent. inr (subst (λ o. Settles o o) (sym absent) refl)) (are.all file kind);
@@ -148,7 +152,9 @@ module _ (old mid : FinMap file_cmp FileState) (left : List FileId) (file : File
 
       pub one_scanned : IsScannedTo left (option_or last (Some (record { rest = rest }, spans))) old now
       one_scanned = record {
-        ascending = front_ascending left file so_far.ascending;
+        ascending = front_pairs InOrder left file so_far.ascending;
+        distinct = front_pairs (λ a b. a ≢ b) left file so_far.distinct;
+        fresh = λ other is_in. others other (with_last (λ a b. a ≢ b) left file so_far.distinct other is_in) ∙ so_far.fresh other (Contains-append_left left (file ∷ []) other is_in);
         there = λ other is_in. so_far.there other (Contains-append_left left (file ∷ []) other is_in);
         each = λ other kind. ⊎_elim (λ same. inr (settles_by other same)) (λ ne. subst (λ t. StaysOrSettles (get old other) t) (sym (others other ne)) (so_far.each other kind)) (same_or_not other file);
         behind = λ other kind. ⊎_elim (λ same. inr (settles_by other same)) (λ ne. behind other ne (so_far.behind other kind)) (same_or_not other file);

@@ -1,7 +1,7 @@
 -- What the search for the journal does to the files, and what a crash leaves meanwhile.
-use Rattle.std.specs.Prelude.{◌≡◌, ◌≢◌, ◌⊎◌, ◌+◌, ◌++◌, ◌∷◌, ℕ, List, [], Option, Some, None}
-use Rattle.std.specs.FinMap.{FinMap, get}
-use Rattle.std.specs.List.{Contains}
+use Rattle.std.specs.Prelude.{◌≡◌, ◌≢◌, ◌⊎◌, ◌+◌, ◌≤◌, ◌++◌, ◌∷◌, ℕ, List, [], length, sum_by, Option, Some, None}
+use Rattle.std.specs.FinMap.{FinMap, get, keys}
+use Rattle.std.specs.List.{AllPairs, Contains, filter}
 use Rattle.pg_disk.specs.declared.fault.Fault.{Fault}
 use Rattle.pg_disk.specs.declared.fault.Fault.TheVariants.{Failed, Damaged, Spent, Memory}
 use Rattle.pg_disk.specs.declared.fault.Rule.TheVariants.{Cut}
@@ -14,12 +14,27 @@ use Rattle.pg_gate.specs.Gated.{Batches, HasBatches, HasNone}
 use Rattle.pg_gate.specs.Spans.{IsCut, StaysOrMends, spans_of}
 use Rattle.pg_gate.specs.declared.spans.Span.{Span}
 use Rattle.pg_journal.specs.declared.journal.Journal.{Journal}
-use Rattle.pg_journal.specs.Generations.{as_read, as_left, first_generation, GoesOn, HasNoneThere, IsAscending, IsGeneration, JournalOf}
+use Rattle.pg_journal.specs.Generations.{as_read, as_left, first_generation, is_generation, GoesOn, HasNoneThere, IsAscending, IsGeneration, JournalOf}
 use Rattle.pg_journal.specs.Stands.{AreQuiet, Stands, StaysOrSettles, name_of}
 
--- these are the generations that are there, in their order
+-- how many bytes a file has as read
+abbrev pub size_of : Option FileState → ℕ
+size_of None = 0
+size_of (Some s) = length s.bytes
+
+-- how many bytes the generations have, together
+abbrev pub journal_bytes : FinMap file_cmp FileState → ℕ
+journal_bytes files = sum_by (λ file. size_of (get files file)) (filter is_generation (keys files))
+
+-- the bytes that were read, and so many beside them, are no more than the generations had
+abbrev pub TakesWithin : ℕ → Account → Account → Type 0
+TakesWithin beside old new = new.taken + beside ≤ old.taken + journal_bytes old.files
+
+-- these are the generations that are there, each once, in their order
 pub record AreGenerations (generations : List FileId) (files : FinMap file_cmp FileState) : Type 0 where
   pub ascending : IsAscending generations
+  pub distinct : AllPairs (λ a b. a ≢ b) generations
+  pub bytes : sum_by (λ file. size_of (get files file)) generations ≡ journal_bytes files
   pub there : (file : FileId) → Contains generations file → (file.kind ≡ OfJournal) × IsFileThere file files
   pub all : (file : FileId) → file.kind ≡ OfJournal → Contains generations file ⊎ (get files file ≡ None)
 

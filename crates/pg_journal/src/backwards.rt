@@ -1,13 +1,13 @@
 // The generations are gone through from the last one back, until one has a batch.
-ghost use Rattle.std.specs.Prelude.{◌≡◌, ℕ, All, IfOk, IfErr, MatchOption};
+ghost use Rattle.std.specs.Prelude.{◌≡◌, ℕ, All, IfOk, IfErr, OnErr, MatchOption};
 ghost use Rattle.pg_disk.specs.Account.{account, IsHonest};
 ghost use Rattle.pg_disk.specs.Calls.{Changes, Reads};
 ghost use Rattle.pg_disk.specs.Counts.{CountsFault};
 ghost use Rattle.pg_disk.specs.Image.{Leaves};
 ghost use Rattle.pg_disk.specs.Moments.{Within};
-ghost use Rattle.pg_gate.specs.Spans.{spans_of};
+ghost use Rattle.pg_gate.specs.Spans.{payload_bytes, spans_of};
 ghost use Rattle.pg_journal.specs.Generations.{as_read, HasNoGeneration, HasNoneThere, IsGeneration};
-ghost use Rattle.pg_journal.specs.Looks.{AreGenerations, IsCutGeneration, IsFound, LeavesJournal, ReadsGenerations};
+ghost use Rattle.pg_journal.specs.Looks.{AreGenerations, IsCutGeneration, IsFound, LeavesJournal, ReadsGenerations, TakesWithin};
 
 use crate::Journal;
 use pg_disk::{Disk, Fault, FileId, Kind};
@@ -26,6 +26,11 @@ pub(crate) fn scan_back<D: Disk>(
         (HasNoneThere (as_read (account (D.tells disk.old)).files) × HasNoneThere (as_read (account (D.tells disk.new)).files))
         (λ found. IsFound found.0 found.1.items (account (D.tells disk.old)).files (account (D.tells disk.new)).files)) }
     ensures stays { Changes (D.tells disk.old) (D.tells disk.new) ReadsGenerations }
+    ensures taken { IfOk result (λ o. IsHonest (D.tells disk.old) → MatchOption o
+        (TakesWithin 0 (account (D.tells disk.old)) (account (D.tells disk.new)))
+        (λ found. TakesWithin (payload_bytes found.1.items) (account (D.tells disk.old)) (account (D.tells disk.new)))) }
+    ensures taken_err { OnErr result (IsHonest (D.tells disk.old) →
+        TakesWithin 0 (account (D.tells disk.old)) (account (D.tells disk.new))) }
     ensures any_moment { Within D.moment D.left_since disk.old disk.new (LeavesJournal (D.tells disk.old)) }
     ensures damaged { IfErr result (IsCutGeneration (D.tells disk.old)) }
     ensures cause { CountsFault (D.faults disk.old) (D.faults disk.new) result }

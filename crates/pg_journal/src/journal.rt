@@ -1,5 +1,5 @@
 // The journal over its generations.
-ghost use Rattle.std.specs.Prelude.{◌≡◌, ◌<◌, ◌+◌, ◌^◌, ◌↔◌, ℕ, [], ◌∷◌, ◌++◌, length, IfOk, IfErr, IsErrOf, MatchOption};
+ghost use Rattle.std.specs.Prelude.{◌≡◌, ◌<◌, ◌+◌, ◌^◌, ◌↔◌, ℕ, [], ◌∷◌, ◌++◌, length, IfOk, IfErr, OnErr, IsErrOf, MatchOption};
 ghost use Rattle.std.specs.FinMap.{get};
 ghost use Rattle.pg_disk.specs.Account.{account, IsHonest};
 ghost use Rattle.pg_disk.specs.Calls.{Changes, ChangesFile, Reads};
@@ -7,9 +7,9 @@ ghost use Rattle.pg_disk.specs.Counts.{CountsFault};
 ghost use Rattle.pg_disk.specs.Image.{Leaves};
 ghost use Rattle.pg_disk.specs.Moments.{Within};
 ghost use Rattle.pg_gate.specs.Gated.{IsFailedOrSpent};
-ghost use Rattle.pg_gate.specs.Spans.{spans_of};
+ghost use Rattle.pg_gate.specs.Spans.{payload_bytes, spans_of};
 ghost use Rattle.pg_journal.specs.Generations.{as_read, GoesOn, HasNoGeneration, IsGeneration, JournalOf};
-ghost use Rattle.pg_journal.specs.Looks.{IsCutGeneration, LeavesJournal, LeavesOldOrNew, ReadsGenerations};
+ghost use Rattle.pg_journal.specs.Looks.{IsCutGeneration, LeavesJournal, LeavesOldOrNew, ReadsGenerations, TakesWithin};
 ghost use Rattle.pg_journal.specs.Stands.{Stands, StaysOrSettles, counted, name_of};
 
 use crate::backwards::{peek_back, scan_back};
@@ -50,6 +50,10 @@ impl Journal {
             (file ≡ name_of found.0 → ⊥) →
             StaysOrSettles (get (account (D.tells disk.old)).files file) (get (account (D.tells disk.new)).files file)) }
         ensures stays { Changes (D.tells disk.old) (D.tells disk.new) ReadsGenerations }
+        ensures taken { IfOk result (λ found. IsHonest (D.tells disk.old) →
+            TakesWithin (payload_bytes found.1.items) (account (D.tells disk.old)) (account (D.tells disk.new))) }
+        ensures taken_err { OnErr result (IsHonest (D.tells disk.old) →
+            TakesWithin 0 (account (D.tells disk.old)) (account (D.tells disk.new))) }
         ensures any_moment { Within D.moment D.left_since disk.old disk.new (LeavesJournal (D.tells disk.old)) }
 
         ensures damaged { IfErr result (IsCutGeneration (D.tells disk.old)) }

@@ -10,12 +10,14 @@ use Rattle.pg_journal.proofs.Leaving.{no_change}
 use Rattle.pg_journal.proofs.Peeking.{last_kind}
 use Rattle.pg_journal.proofs.Scanned.{IsScannedTo, none_scanned, none_left, all_scanned}
 use Rattle.pg_journal.proofs.ScanStep.{not_scanned, can_scan, in_scan, cut_before, stays_then, still_scanned, now_found}
+use Rattle.pg_journal.proofs.Taken.{TakesTo, none_taken, more_taken, found_taken, taken_at_err, all_taken, on_err}
 use Rattle.pg_journal.proofs.backwards.scan_back.Goals as goal
 
 pub generations-init : goal.generations-init
 generations-init g c = record {
   kinds = c.requires.kinds;
   stays = no_change (g.D.Disk.tells c.args.disk.now);
+  taken = λ honest. none_taken c.args.generations.items (account (g.D.Disk.tells c.args.disk.now)) (c.requires.listed honest);
   run = not_scanned g.D.Disk.moment g.D.Disk.left_since g.D.Disk.tells c.args.disk.now (g.met.D.Disk.only_now c.args.disk.now);
   faults = refl;
   so_far = λ honest. none_scanned c.args.generations.items (account (g.D.Disk.tells c.args.disk.now)).files (c.requires.listed honest);
@@ -78,6 +80,9 @@ generations-preserved g c = record {
       (last_kind c.pop.new.self.items c.in-Some.file (subst (λ l. All (λ (file : FileId). file.kind ≡ OfJournal) l) c.in-Some.ensures.items c.generations.invariant.kinds)) c.generations.invariant.stays
       (λ honest. subst (λ l. IsScannedTo l c.generations.last (account (g.D.Disk.tells c.args.disk.now)).files (account (g.D.Disk.tells c.generations.disk)).files) c.in-Some.ensures.items (c.generations.invariant.so_far honest))
       c.scan.new.disk c.scan.ensures.stays;
+  taken = more_taken (g.D.Disk.tells c.args.disk.now) (g.D.Disk.tells c.generations.disk) (g.D.Disk.tells c.scan.new.disk) c.pop.new.self.items c.in-Some.file c.generations.last c.generations.invariant.stays
+    (λ honest. subst (λ l. IsScannedTo l c.generations.last (account (g.D.Disk.tells c.args.disk.now)).files (account (g.D.Disk.tells c.generations.disk)).files) c.in-Some.ensures.items (c.generations.invariant.so_far honest))
+    (λ honest. subst (λ l. TakesTo l (account (g.D.Disk.tells c.args.disk.now)) (account (g.D.Disk.tells c.generations.disk))) c.in-Some.ensures.items (c.generations.invariant.taken honest)) c.in_ok-rest.spans.items c.in_ok-rest.ensures.taken;
   run = in_scan g.D.Disk.moment g.D.Disk.left_since g.D.Disk.tells c.args.disk.now c.generations.disk c.pop.new.self.items c.in-Some.file c.generations.last
       (last_kind c.pop.new.self.items c.in-Some.file (subst (λ l. All (λ (file : FileId). file.kind ≡ OfJournal) l) c.in-Some.ensures.items c.generations.invariant.kinds)) c.generations.invariant.stays
       (λ honest. subst (λ l. IsScannedTo l c.generations.last (account (g.D.Disk.tells c.args.disk.now)).files (account (g.D.Disk.tells c.generations.disk)).files) c.in-Some.ensures.items (c.generations.invariant.so_far honest))
@@ -94,3 +99,21 @@ pub returns-clause-found : goal.returns-clause-found
 returns-clause-found g c = λ honest.
     all_scanned (account (g.D.Disk.tells c.args.disk.now)).files (account (g.D.Disk.tells c.generations.disk)).files c.generations.last
     (subst (λ l. IsScannedTo l c.generations.last (account (g.D.Disk.tells c.args.disk.now)).files (account (g.D.Disk.tells c.generations.disk)).files) (none_left c.generations.generations.items (omega (arith, c.in_default.ensures.cases))) (c.generations.invariant.so_far honest))
+
+pub returns-in_err-rest-clause-taken_err : goal.returns-in_err-rest-clause-taken_err
+returns-in_err-rest-clause-taken_err g c =
+    on_err c.from_residual.result _ (taken_at_err (g.D.Disk.tells c.args.disk.now) (g.D.Disk.tells c.generations.disk) (g.D.Disk.tells c.scan.new.disk) c.pop.new.self.items c.in-Some.file c.generations.last c.generations.invariant.stays
+    (λ honest. subst (λ l. IsScannedTo l c.generations.last (account (g.D.Disk.tells c.args.disk.now)).files (account (g.D.Disk.tells c.generations.disk)).files) c.in-Some.ensures.items (c.generations.invariant.so_far honest))
+    (λ honest. subst (λ l. TakesTo l (account (g.D.Disk.tells c.args.disk.now)) (account (g.D.Disk.tells c.generations.disk))) c.in-Some.ensures.items (c.generations.invariant.taken honest)) c.in_err-rest.ensures.taken_err)
+
+pub returns-then-not-is_empty-clause-taken : goal.returns-then-not-is_empty-clause-taken
+returns-then-not-is_empty-clause-taken g c =
+    found_taken (g.D.Disk.tells c.args.disk.now) (g.D.Disk.tells c.generations.disk) (g.D.Disk.tells c.scan.new.disk) c.pop.new.self.items c.in-Some.file c.generations.last c.generations.invariant.stays
+    (λ honest. subst (λ l. IsScannedTo l c.generations.last (account (g.D.Disk.tells c.args.disk.now)).files (account (g.D.Disk.tells c.generations.disk)).files) c.in-Some.ensures.items (c.generations.invariant.so_far honest))
+    (λ honest. subst (λ l. TakesTo l (account (g.D.Disk.tells c.args.disk.now)) (account (g.D.Disk.tells c.generations.disk))) c.in-Some.ensures.items (c.generations.invariant.taken honest)) c.in_ok-rest.spans.items c.in_ok-rest.ensures.taken
+
+pub returns-clause-taken : goal.returns-clause-taken
+returns-clause-taken g c = λ honest.
+    all_taken c.generations.last (account (g.D.Disk.tells c.args.disk.now)) (account (g.D.Disk.tells c.generations.disk))
+    (subst (λ l. IsScannedTo l c.generations.last (account (g.D.Disk.tells c.args.disk.now)).files (account (g.D.Disk.tells c.generations.disk)).files) (none_left c.generations.generations.items (omega (arith, c.in_default.ensures.cases))) (c.generations.invariant.so_far honest))
+    (subst (λ l. TakesTo l (account (g.D.Disk.tells c.args.disk.now)) (account (g.D.Disk.tells c.generations.disk))) (none_left c.generations.generations.items (omega (arith, c.in_default.ensures.cases))) (c.generations.invariant.taken honest))
