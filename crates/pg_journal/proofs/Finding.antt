@@ -1,5 +1,5 @@
 -- The journal is found: the generations are listed, then scanned, and the first one is laid where none is there.
-use Rattle.std.proofs.Common.{◌≡◌, ◌≢◌, ◌⊎◌, inl, inr, ⊎_elim, ℕ, ◌+◌, List, [], Option, Some, None, refl, sym, ◌∙◌, ap, subst, arith}
+use Rattle.std.proofs.Common.{◌≡◌, ◌≢◌, inl, inr, ⊎_elim, ℕ, List, [], Option, Some, None, refl, sym, ◌∙◌, ap, subst, arith}
 use Rattle.std.specs.Prelude.{MatchOption}
 use Rattle.std.specs.FinMap.{get}
 use Rattle.pg_disk.specs.declared.file_id.FileId.{FileId}
@@ -16,7 +16,7 @@ use Rattle.pg_gate.specs.declared.log.Rest.{Rest}
 use Rattle.pg_journal.specs.Generations.{as_read, bytes_of, first_generation, HasNoneThere, JournalOf}
 use Rattle.pg_journal.specs.Looks.{KeepsGeneration, LeavesJournal, ReadsGenerations}
 use Rattle.pg_journal.specs.Stands.{IsIdle, Stands}
-use Rattle.pg_journal.proofs.Leaving.{gone_left, leaves_journal, left_now, mends_then, no_change}
+use Rattle.pg_journal.proofs.Leaving.{gone_left, leaves_journal, left_now, no_change}
 use Rattle.pg_journal.proofs.Order.{same_or_not, not_itself_by}
 
 -- what is said where nothing was found

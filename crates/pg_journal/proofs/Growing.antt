@@ -1,11 +1,11 @@
 -- What the journal says while a batch is added.
-use Rattle.std.proofs.Common.{◌≡◌, ◌≢◌, ◌⊎◌, inl, inr, ⊎_elim, ℕ, ◌+◌, ◌^◌, ◌≤◌, ◌<◌, List, [], ◌∷◌, ◌++◌, length, Option, Some, None, refl, sym, ◌∙◌, ap, subst, arith}
+use Rattle.std.proofs.Common.{◌≡◌, ◌≢◌, ◌⊎◌, inl, inr, ⊎_elim, ℕ, ◌+◌, ◌^◌, ◌≤◌, ◌<◌, List, [], ◌∷◌, ◌++◌, length, Option, refl, sym, subst, arith}
 use Rattle.std.proofs.lemmas.List.Elements.{All-push}
 use Rattle.std.specs.FinMap.{get}
 use Rattle.pg_disk.specs.declared.file_id.FileId.{FileId}
 use Rattle.pg_disk.specs.declared.file_id.Kind.TheVariants.{Journal as OfJournal}
 use Rattle.pg_disk.specs.Files.{Files}
-use Rattle.pg_disk.specs.Account.{FileState, Account, account, IsHonest}
+use Rattle.pg_disk.specs.Account.{Account, account, IsHonest}
 use Rattle.pg_disk.specs.Calls.{Changes, ChangesFile}
 use Rattle.pg_disk.specs.Image.{Leaves, LeavesAt, OthersLeft}
 use Rattle.pg_disk.specs.Moments.{Within}

@@ -1,9 +1,9 @@
 -- A directory's journal says one thing.
-use Rattle.std.proofs.Common.{◌≡◌, ◌≢◌, ◌⊎◌, inl, inr, ⊎_elim, ℕ, ◌≤◌, List, [], ◌∷◌, ◌++◌, length, Option, Some, None, refl, sym, ◌∙◌, ap, subst, arith}
+use Rattle.std.proofs.Common.{◌≡◌, inl, inr, ℕ, List, [], ◌∷◌, Option, Some, None, refl, sym, ◌∙◌, subst}
 use Rattle.pg_disk.specs.declared.file_id.FileId.{FileId}
-use Rattle.pg_gate.specs.Gated.{opened, AllFit, Batches, HasBatches, HasNone}
+use Rattle.pg_gate.specs.Gated.{AllFit, Batches, HasBatches, HasNone}
 use Rattle.pg_gate.proofs.Unique.{batches_unique, short_none, head_of}
-use Rattle.pg_journal.specs.Generations.{Contents, IsGeneration, HasNoGeneration, JournalOf}
+use Rattle.pg_journal.specs.Generations.{Contents, IsGeneration, JournalOf}
 use Rattle.pg_journal.proofs.Order.{in_order}
 
 -- bytes that have no batch have no other list of batches

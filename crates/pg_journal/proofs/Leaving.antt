@@ -1,20 +1,18 @@
 -- What a crash leaves while the generations are scanned, and what is changed.
-use Rattle.std.proofs.Common.{◌≡◌, ◌≢◌, ◌⊎◌, inl, inr, ⊎_elim, ℕ, ◌+◌, List, [], Option, Some, None, refl, sym, ◌∙◌, ap, subst, arith}
-use Rattle.std.specs.FinMap.{FinMap, get}
+use Rattle.std.proofs.Common.{◌≡◌, ◌≢◌, ◌⊎◌, inl, inr, ⊎_elim, ℕ, ◌+◌, List, [], Option, Some, None, refl, sym, ◌∙◌, subst, arith}
+use Rattle.std.specs.FinMap.{get}
 use Rattle.pg_disk.specs.declared.file_id.FileId.{FileId}
 use Rattle.pg_disk.specs.declared.file_id.Kind.TheVariants.{Journal as OfJournal}
-use Rattle.pg_disk.specs.Files.{file_cmp, Files}
+use Rattle.pg_disk.specs.Files.{Files}
 use Rattle.pg_disk.specs.Account.{FileState, Account, account, IsHonest}
 use Rattle.pg_disk.specs.Calls.{Changes}
 use Rattle.pg_disk.specs.Image.{IsFileThere, IsLeftAt, Leaves, LeavesAt}
-use Rattle.pg_disk.specs.Moments.{Within}
-use Rattle.pg_disk.proofs.Runs.{started, then_run}
 use Rattle.pg_gate.specs.Gated.{Batches, HasBatches}
 use Rattle.pg_gate.specs.Spans.{AsRead, IsCut, IsMendable, KeepsAtRest, ReadsAndChanges, StaysOrMends}
 use Rattle.pg_gate.proofs.Scanning.{rest_left}
 use Rattle.pg_journal.specs.Generations.{first_generation}
 use Rattle.pg_journal.specs.Looks.{IsCutAt, KeepsGeneration, LeavesJournal, ReadsGenerations}
-use Rattle.pg_journal.specs.Stands.{Settles, StaysOrSettles}
+use Rattle.pg_journal.specs.Stands.{StaysOrSettles}
 use Rattle.pg_journal.proofs.Law.{none_alone}
 use Rattle.pg_journal.proofs.Order.{same_or_not}
 use Rattle.pg_journal.proofs.Saying.{left_keeps, idle_left, quiet_says}

@@ -1,7 +1,7 @@
 -- The generations are looked at from the last one back.
-use Rattle.std.proofs.Common.{◌≡◌, ◌≢◌, ◌⊎◌, inl, inr, ⊎_elim, ℕ, ◌≤◌, ◌<◌, true, false, List, [], ◌∷◌, ◌++◌, length, get_or, Option, Some, None, refl, sym, ◌∙◌, ap, subst, arith, length-append}
+use Rattle.std.proofs.Common.{◌≡◌, ◌≢◌, ◌⊎◌, inl, inr, ⊎_elim, ℕ, true, false, List, [], ◌∷◌, ◌++◌, length, get_or, Option, sym, ◌∙◌, subst, arith, length-append}
 use Rattle.std.specs.Prelude.{◌==◌}
-use Rattle.std.specs.FinMap.{FinMap, get}
+use Rattle.std.specs.FinMap.{FinMap}
 use Rattle.std.specs.List.{All, Contains, AllPairs}
 use Rattle.std.proofs.Math.Seq.{get_or-append_seam}
 use Rattle.std.proofs.lemmas.List.{get_or_append_left}
@@ -16,7 +16,7 @@ use Rattle.pg_gate.specs.Gated.{AllFit, Batches, HasBatches, HasNone}
 use Rattle.pg_gate.specs.Spans.{AsRead, HasSpans, IsCut, spans_of}
 use Rattle.pg_gate.specs.declared.spans.Span.{Span}
 use Rattle.pg_gate.proofs.Reading.{as_read_before}
-use Rattle.pg_journal.specs.Generations.{as_read, bytes_of, IsAscending, IsBefore, IsGeneration, HasNoGeneration}
+use Rattle.pg_journal.specs.Generations.{as_read, bytes_of, IsAscending, IsBefore, IsGeneration}
 use Rattle.pg_journal.specs.Looks.{AreGenerations, IsCutAt}
 use Rattle.pg_journal.proofs.Cuts.{none_placed, some_placed}
 use Rattle.pg_journal.proofs.Order.{not_itself_by}

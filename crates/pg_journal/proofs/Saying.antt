@@ -1,20 +1,19 @@
 -- What the journal says, as it stands and after a crash.
-use Rattle.std.proofs.Common.{◌≡◌, ◌≢◌, ◌⊎◌, inl, inr, ⊎_elim, ℕ, ◌≤◌, ◌<◌, List, [], ◌∷◌, ◌++◌, length, Option, Some, None, refl, sym, ◌∙◌, ap, subst, arith}
+use Rattle.std.proofs.Common.{◌≡◌, ◌≢◌, ◌⊎◌, inl, inr, ⊎_elim, ℕ, List, [], ◌∷◌, Option, Some, None, refl, sym, subst}
 use Rattle.std.specs.FinMap.{FinMap, get}
 use Rattle.pg_disk.specs.declared.file_id.FileId.{FileId}
 use Rattle.pg_disk.specs.declared.file_id.Kind.TheVariants.{Journal as OfJournal}
 use Rattle.pg_disk.specs.Files.{file_cmp, Files}
-use Rattle.pg_disk.specs.Account.{FileState, IsQuiet}
+use Rattle.pg_disk.specs.Account.{FileState}
 use Rattle.pg_disk.specs.Image.{IsLeftAt}
 use Rattle.pg_gate.specs.Gated.{AllFit, Batches, HasBatches, HasNone, RestsAt, StandsFor}
 use Rattle.pg_gate.proofs.Scanning.{at_rest_left, rest_left}
-use Rattle.pg_gate.proofs.Sealing.{batches_from, front_left}
+use Rattle.pg_gate.proofs.Sealing.{batches_from}
 use Rattle.pg_gate.proofs.Unique.{stands_fit, stands_left}
 use Rattle.pg_journal.specs.declared.journal.Journal.{Journal}
-use Rattle.pg_journal.specs.Generations.{Contents, as_read, as_left, bytes_of, IsBefore, IsGeneration, HasNoGeneration, JournalOf}
+use Rattle.pg_journal.specs.Generations.{Contents, as_read, as_left, bytes_of, JournalOf}
 use Rattle.pg_journal.specs.Looks.{KeepsGeneration}
-use Rattle.pg_journal.specs.Stands.{name_of, IsIdle, Stands, Settles, StaysOrSettles, IsQuietAt, AreQuiet}
-use Rattle.pg_journal.proofs.Law.{none_alone}
+use Rattle.pg_journal.specs.Stands.{name_of, IsIdle, Stands, StaysOrSettles, IsQuietAt, AreQuiet}
 use Rattle.pg_journal.proofs.Order.{same_or_not, not_itself_by}
 
 -- what a crash leaves of a generation keeps its batches
@@ -73,13 +72,16 @@ says_of journal batches files stands contents [] as_before fit has others = inr 
     none : (file : FileId) → file.kind ≡ OfJournal → (file ≡ name_of journal) ⊎ (file ≢ name_of journal) → HasNone (contents file)
     none file kind (inl own) = subst (λ f. HasNone (contents f)) (sym own) (has_none (contents (name_of journal)) has)
     none file kind (inr other) = others file kind other (stands.alone (as_before refl) file kind other)
-says_of journal batches files stands contents (p ∷ ps) as_before fit has others = inl (name_of journal, record {
-  kind = stands.kind;
-  has = has;
-  fit = fit;
-  some = λ e. cc;
-  last = λ file kind before. others file kind (λ own. not_itself_by (name_of journal) file own before) (stands.last file kind before);
-})
+says_of journal batches files stands contents (p ∷ ps) as_before fit has others = inl (
+  name_of journal,
+  record {
+    kind = stands.kind;
+    has = has;
+    fit = fit;
+    some = λ e. cc;
+    last = λ file kind before. others file kind (λ own. not_itself_by (name_of journal) file own before) (stands.last file kind before);
+  },
+)
 
 -- What a crash leaves says what the journal stands for, also where other generations are gone by then.
 pub stands_says : (journal : Journal) (batches : List (List ℕ)) (files : FinMap file_cmp FileState) → Stands journal batches files → (image : Files) → IsLeftAt (get files (name_of journal)) (get image (name_of journal))

@@ -1,5 +1,5 @@
 -- The generations are scanned from the last one back.
-use Rattle.std.proofs.Common.{◌≡◌, ◌≢◌, ◌⊎◌, inl, inr, ⊎_elim, ℕ, ◌+◌, true, false, List, [], ◌∷◌, ◌++◌, length, Option, Some, None, Vec, refl, sym, ◌∙◌, ap, subst, arith}
+use Rattle.std.proofs.Common.{◌≡◌, ◌≢◌, ◌⊎◌, inl, inr, ⊎_elim, ℕ, true, false, List, [], ◌∷◌, ◌++◌, length, Option, Some, None, Vec, refl, sym, ◌∙◌, ap, subst, arith}
 use Rattle.std.specs.Prelude.{◌==◌, MatchOption}
 use Rattle.std.specs.Option.{option_or}
 use Rattle.std.specs.declared.alloc.Global.{Global}
@@ -20,7 +20,7 @@ use Rattle.pg_gate.proofs.Unique.{stands_fit}
 use Rattle.pg_journal.specs.declared.journal.Journal.{Journal}
 use Rattle.pg_journal.specs.Generations.{as_read, bytes_of, IsAscending, IsBefore, IsGeneration, IsLastThere, HasNoGeneration, HasNoneThere}
 use Rattle.pg_journal.specs.Looks.{AreGenerations, IsFound}
-use Rattle.pg_journal.specs.Stands.{name_of, IsIdle, Settles, StaysOrSettles, Stands}
+use Rattle.pg_journal.specs.Stands.{name_of, IsIdle, Settles, StaysOrSettles}
 use Rattle.pg_journal.proofs.Cuts.{none_placed, some_placed}
 use Rattle.pg_journal.proofs.Law.{none_alone}
 use Rattle.pg_journal.proofs.Order.{same_or_not, not_itself_by}

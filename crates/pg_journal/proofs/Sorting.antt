@@ -1,9 +1,8 @@
 -- The generations in their order.
-use Rattle.std.proofs.Common.{◌≡◌, ◌⊎◌, inl, inr, ℕ, ◌+◌, ◌≤◌, ◌<◌, Bool, true, false, cond, List, length, get_or, arith, refl, is_lt, nat_cmp}
+use Rattle.std.proofs.Common.{◌≡◌, inl, inr, ℕ, false, List, get_or, arith, is_lt, nat_cmp}
 use Rattle.std.specs.Ordering.{ordering_then}
-use Rattle.std.specs.List.{AllPairs}
-use Rattle.std.specs.List.Sorted.{IsSortedBy, IsSortedByKey}
-use Rattle.std.specs.Cmp.{IsTotalOrder, nat_cmp_total}
+use Rattle.std.specs.List.Sorted.{IsSortedByKey}
+use Rattle.std.specs.Cmp.{nat_cmp_total}
 use Rattle.std.proofs.lemmas.Cmp.{on_total, then_total}
 use Rattle.std.proofs.lemmas.Bool.Decides.{nat_tests}
 use Rattle.std.proofs.lemmas.List.Sorted.{ranks_by, sorted_far}

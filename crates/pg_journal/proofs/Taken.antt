@@ -1,5 +1,5 @@
 -- How many bytes the search for the journal reads.
-use Rattle.std.proofs.Common.{◌≡◌, ◌≢◌, inl, inr, ℕ, ◌+◌, ◌≤◌, List, [], ◌∷◌, ◌++◌, length, Option, Some, None, Result, Ok, Err, Vec, refl, sym, ◌∙◌, ap, subst, arith}
+use Rattle.std.proofs.Common.{◌≡◌, ℕ, ◌+◌, ◌≤◌, List, [], ◌∷◌, ◌++◌, length, Option, Some, None, Result, Ok, Err, Vec, sym, ◌∙◌, ap, subst, arith}
 use Rattle.std.specs.Prelude.{MatchOption, OnErr, sum_by}
 use Rattle.std.specs.declared.alloc.Global.{Global}
 use Rattle.std.specs.FinMap.{get}
@@ -7,7 +7,7 @@ use Rattle.std.proofs.lemmas.List.Elements.{Contains-push}
 use Rattle.std.proofs.lemmas.List.Sums.{sum_by-append}
 use Rattle.pg_disk.specs.declared.file_id.FileId.{FileId}
 use Rattle.pg_disk.specs.Account.{FileState, Account, account, IsHonest}
-use Rattle.pg_disk.specs.Calls.{Changes, ChangesFile, Reads}
+use Rattle.pg_disk.specs.Calls.{Changes, Reads}
 use Rattle.pg_gate.specs.Spans.{AsRead, ReadsGates, ReadsWithin, payload_bytes}
 use Rattle.pg_gate.specs.declared.spans.Span.{Span}
 use Rattle.pg_journal.specs.declared.journal.Journal.{Journal}

@@ -14,7 +14,7 @@ use Rattle.pg_gate.specs.Gated.{Batches, HasBatches, HasNone}
 use Rattle.pg_gate.specs.Spans.{IsCut, StaysOrMends, spans_of}
 use Rattle.pg_gate.specs.declared.spans.Span.{Span}
 use Rattle.pg_journal.specs.declared.journal.Journal.{Journal}
-use Rattle.pg_journal.specs.Generations.{as_read, as_left, first_generation, is_generation, GoesOn, HasNoneThere, IsAscending, IsGeneration, JournalOf}
+use Rattle.pg_journal.specs.Generations.{as_read, as_left, first_generation, is_generation, GoesOn, IsAscending, JournalOf}
 use Rattle.pg_journal.specs.Stands.{AreQuiet, Stands, StaysOrSettles, name_of}
 
 -- how many bytes a file has as read

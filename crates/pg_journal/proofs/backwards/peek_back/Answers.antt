@@ -1,13 +1,13 @@
-use Rattle.std.proofs.Common.{◌≡◌, ◌≢◌, ◌∙◌, ◌+◌, List, [], ◌∷◌, ◌++◌, refl, sym, subst, arith}
+use Rattle.std.proofs.Common.{◌≡◌, ◌∙◌, ◌+◌, refl, subst}
 use Rattle.std.proofs.lemmas.Result.{err_from_is_err_and}
 use Rattle.std.proofs.lemmas.List.Elements.{All-pop}
 use Rattle.std.specs.List.{All}
 use Rattle.pg_disk.specs.declared.file_id.FileId.{FileId}
 use Rattle.pg_disk.specs.declared.file_id.Kind.TheVariants.{Journal as OfJournal}
-use Rattle.pg_disk.specs.Account.{account, IsHonest}
+use Rattle.pg_disk.specs.Account.{account}
 use Rattle.pg_gate.proofs.Reading.{no_reads, reads_then, run_reads, still_there}
 use Rattle.pg_disk.proofs.Runs.{started}
-use Rattle.pg_journal.proofs.Peeking.{IsPeekedTo, none_peeked, last_there, one_peeked, one_found, was_cut, still_peeked, now_found, last_kind}
+use Rattle.pg_journal.proofs.Peeking.{IsPeekedTo, none_peeked, last_there, was_cut, still_peeked, now_found, last_kind}
 use Rattle.pg_journal.proofs.Cuts.{cut_generation}
 use Rattle.pg_journal.proofs.backwards.peek_back.Goals as goal
 

@@ -1,4 +1,4 @@
-use Rattle.std.proofs.Common.{◌≡◌, ◌∙◌, ◌∷◌, [], ◌++◌, refl, sym, subst, arith}
+use Rattle.std.proofs.Common.{◌≡◌, ◌∙◌, refl, sym, subst, arith}
 use Rattle.std.proofs.lemmas.Result.{err_from_is_err_and}
 use Rattle.std.proofs.lemmas.List.Elements.{All-pop}
 use Rattle.std.specs.List.{All}
@@ -81,8 +81,8 @@ generations-preserved g c = record {
       (λ honest. subst (λ l. IsScannedTo l c.generations.last (account (g.D.Disk.tells c.args.disk.now)).files (account (g.D.Disk.tells c.generations.disk)).files) c.in-Some.ensures.items (c.generations.invariant.so_far honest))
       c.scan.new.disk c.scan.ensures.stays;
   taken = more_taken (g.D.Disk.tells c.args.disk.now) (g.D.Disk.tells c.generations.disk) (g.D.Disk.tells c.scan.new.disk) c.pop.new.self.items c.in-Some.file c.generations.last c.generations.invariant.stays
-    (λ honest. subst (λ l. IsScannedTo l c.generations.last (account (g.D.Disk.tells c.args.disk.now)).files (account (g.D.Disk.tells c.generations.disk)).files) c.in-Some.ensures.items (c.generations.invariant.so_far honest))
-    (λ honest. subst (λ l. TakesTo l (account (g.D.Disk.tells c.args.disk.now)) (account (g.D.Disk.tells c.generations.disk))) c.in-Some.ensures.items (c.generations.invariant.taken honest)) c.in_ok-rest.spans.items c.in_ok-rest.ensures.taken;
+      (λ honest. subst (λ l. IsScannedTo l c.generations.last (account (g.D.Disk.tells c.args.disk.now)).files (account (g.D.Disk.tells c.generations.disk)).files) c.in-Some.ensures.items (c.generations.invariant.so_far honest))
+      (λ honest. subst (λ l. TakesTo l (account (g.D.Disk.tells c.args.disk.now)) (account (g.D.Disk.tells c.generations.disk))) c.in-Some.ensures.items (c.generations.invariant.taken honest)) c.in_ok-rest.spans.items c.in_ok-rest.ensures.taken;
   run = in_scan g.D.Disk.moment g.D.Disk.left_since g.D.Disk.tells c.args.disk.now c.generations.disk c.pop.new.self.items c.in-Some.file c.generations.last
       (last_kind c.pop.new.self.items c.in-Some.file (subst (λ l. All (λ (file : FileId). file.kind ≡ OfJournal) l) c.in-Some.ensures.items c.generations.invariant.kinds)) c.generations.invariant.stays
       (λ honest. subst (λ l. IsScannedTo l c.generations.last (account (g.D.Disk.tells c.args.disk.now)).files (account (g.D.Disk.tells c.generations.disk)).files) c.in-Some.ensures.items (c.generations.invariant.so_far honest))

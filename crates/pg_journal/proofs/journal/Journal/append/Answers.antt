@@ -1,7 +1,4 @@
 use Rattle.std.proofs.Common.{◌∷◌, [], ◌++◌, ◌<◌, ◌+◌, ◌^◌, ℕ, List, length, sym, subst}
-use Rattle.std.proofs.lemmas.Result.{IfOk-weaker}
-use Rattle.std.specs.FinMap.{get}
-use Rattle.pg_disk.specs.Account.{account}
 use Rattle.pg_disk.specs.Calls.{Changes, ChangesFile}
 use Rattle.pg_disk.specs.Image.{LeavesAt}
 use Rattle.pg_disk.specs.Moments.{Within}
