@@ -1,0 +1,73 @@
+// Replies as lines.
+ghost use Rattle.std.specs.Prelude.{◌≡◌, IfOk};
+ghost use Rattle.pg_text.specs.Replies.{reply_line};
+
+use pg_bytes::Octets;
+use pg_msg::{Refusal, Reply};
+use std::alloc::{AllocError, Global};
+
+/// The line of a reply, with its line end.
+pub fn render(alloc: Global, reply: Reply) -> Result<Octets, AllocError>
+    ensures { IfOk result (λ bytes. bytes ≡ reply_line reply) }
+{
+    match reply {
+        Reply::Done => Octets::from_slice(alloc, b"ok\n"),
+        Reply::No(refusal) => Octets::from_slice(alloc, refusal_line(refusal)),
+        Reply::Sent(id) => {
+            let line = format!(in alloc; "sent {}-{}\n", id.epoch, id.number)?;
+            Ok(Octets::from_vec(line.into_bytes()))
+        }
+        Reply::Unrouted => Octets::from_slice(alloc, b"unrouted\n"),
+        Reply::Count(count) => {
+            let line = format!(in alloc; "count {count}\n")?;
+            Ok(Octets::from_vec(line.into_bytes()))
+        }
+    }
+}
+
+// The line of a refusal, with its line end.
+fn refusal_line(refusal: Refusal) -> &'static [u8]
+    ensures { result.now ≡ reply_line (Reply.No refusal) }
+{
+    match refusal {
+        Refusal::Line => b"no line\n",
+        Refusal::Name => b"no name\n",
+        Refusal::Address => b"no address\n",
+        Refusal::Queue => b"no queue\n",
+    }
+}
+
+#[cfg(test)]
+mod tests {
+    use super::*;
+    use pg_msg::MessageId;
+    use std::test::Fail;
+
+    #[test]
+    fn writes_replies(rt: HostRuntime) -> Result<(), Fail> {
+        for (reply, line) in [
+            (Reply::Done, "ok\n"),
+            (Reply::No(Refusal::Line), "no line\n"),
+            (Reply::No(Refusal::Name), "no name\n"),
+            (Reply::No(Refusal::Address), "no address\n"),
+            (Reply::No(Refusal::Queue), "no queue\n"),
+            (
+                Reply::Sent(MessageId {
+                    epoch: 1,
+                    number: 4_294_967_295,
+                }),
+                "sent 1-4294967295\n",
+            ),
+            (Reply::Unrouted, "unrouted\n"),
+            (Reply::Count(0), "count 0\n"),
+            (
+                Reply::Count(18_446_744_073_709_551_615),
+                "count 18446744073709551615\n",
+            ),
+        ] {
+            let bytes = render(rt.alloc(), reply)?;
+            assert_eq!(rt; bytes.as_slice(), line.as_bytes());
+        }
+        Ok(())
+    }
+}
