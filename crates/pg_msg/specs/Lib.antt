@@ -1,0 +1,5 @@
+pub mod Commands
+pub mod Lists
+pub mod Messages
+pub mod Names
+pub mod Reading
