@@ -1,5 +1,5 @@
 -- The ranges of what a command holds.
-use Rattle.std.specs.Prelude.{◌≤◌, ℕ, length}
+use Rattle.std.specs.Prelude.{◌≤◌, ℕ, [], None, length}
 use Rattle.pg_msg.specs.declared.command.Command.{Command}
 use Rattle.pg_msg.specs.declared.command.Command.TheVariants.{Address, Queue, Send, Count}
 use Rattle.pg_msg.specs.Names.{IsBetween, IsName}
@@ -15,9 +15,11 @@ pub record AreSettings (max page ahead dup : ℕ) : Type 0 where
 abbrev pub longest_body : ℕ
 longest_body = 1000
 
--- what the command holds is in its range
+-- The command is one of those that are built so far, and what it holds is in its range: queues have no filter, and messages are
+-- sent with a body alone.
 abbrev pub IsInRange : Command → Type 0
 IsInRange (Address name max page ahead dup) = IsName name × AreSettings max page ahead dup
-IsInRange (Queue name address) = IsName name × IsName address
-IsInRange (Send address body) = IsName address × (length body ≤ longest_body)
+IsInRange (Queue name address None) = IsName name × IsName address
+IsInRange (Send address None None [] body) = IsName address × (length body ≤ longest_body)
 IsInRange (Count queue) = IsName queue
+IsInRange _ = ⊥

@@ -1,5 +1,7 @@
--- The names of what a command speaks of.
-use Rattle.std.specs.Prelude.{◌≡◌, ◌⊎◌, ◌≤◌, ℕ, List, length, slice_index, All}
+-- How names are spelled.
+use Rattle.std.specs.Prelude.{◌≡◌, ◌⊎◌, ◌≤◌, ℕ, List, [], ◌∷◌, length, slice_index, All, codes}
+use Rattle.std.specs.List.{Contains}
+use Rattle.std.specs.Str.{str_to_ascii_lowercase}
 
 abbrev pub IsBetween : ℕ → ℕ → ℕ → Type 0
 IsBetween low high n = (low ≤ n) × (n ≤ high)
@@ -18,3 +20,27 @@ pub record IsName (name : List ℕ) : Type 0 where
   pub short : length name ≤ 64
   pub first : IsNameStart (slice_index name 0)
   pub each : All IsNameByte name
+
+-- a letter, `_` or `$`
+abbrev pub IsPropertyNameStart : ℕ → Type 0
+IsPropertyNameStart byte = IsNameStart byte ⊎ (byte ≡ 36)
+
+-- a letter, a digit, `_` or `$`
+abbrev pub IsPropertyNameByte : ℕ → Type 0
+IsPropertyNameByte byte = IsPropertyNameStart byte ⊎ IsBetween 48 57 byte
+
+-- the words that filters are made of, which name no property
+abbrev pub reserved_words : List (List ℕ)
+reserved_words = codes "and" ∷ codes "or" ∷ codes "not" ∷ codes "between" ∷ codes "in" ∷ codes "like" ∷ codes "escape" ∷ codes "is" ∷ codes "null" ∷ codes "true" ∷ codes "false" ∷ []
+
+-- one of those words, in any case of its letters
+abbrev pub IsReserved : List ℕ → Type 0
+IsReserved name = Contains reserved_words (str_to_ascii_lowercase name)
+
+-- a name of a property
+pub record IsPropertyName (name : List ℕ) : Type 0 where
+  pub some : 1 ≤ length name
+  pub short : length name ≤ 64
+  pub first : IsPropertyNameStart (slice_index name 0)
+  pub each : All IsPropertyNameByte name
+  pub unreserved : IsReserved name → ⊥

@@ -1,4 +1,4 @@
-// The ids of queues.
+// The numbers of queues.
 ghost use Rattle.std.specs.Prelude.{◌≡◌, ◌<◌, ◌^◌, ◌↔◌, ◌∷◌, ◌++◌, [], All, IsTrue, OnOk, OnErr, nat_eq};
 ghost use Rattle.std.specs.Cmp.{partial_equiv_from_equiv};
 ghost use Rattle.std.specs.Cmp.Lexicographic.{pointwise, nat_list_eq_equiv};
@@ -79,23 +79,4 @@ impl PartialEq for QueueIds {
 
 impl Eq for QueueIds {
     ghost laws = { nat_list_eq_equiv };
-}
-
-#[cfg(test)]
-mod tests {
-    use super::*;
-    use std::test::Fail;
-
-    #[test]
-    fn keeps_queue_ids(rt: HostRuntime) -> Result<(), Fail> {
-        let mut queues = QueueIds::new(rt.alloc());
-        queues.push(7)?;
-        queues.push(4_294_967_295)?;
-        let numbers = [7, 4_294_967_295];
-        assert_eq!(rt; queues.as_slice(), numbers.as_slice());
-        let other = QueueIds::from_vec(Vec::from_slice(rt.alloc(), &numbers)?);
-        assert!(rt; queues == other);
-        assert_eq!(rt; queues.into_vec().as_slice(), numbers.as_slice());
-        Ok(())
-    }
 }

@@ -1,2 +1,3 @@
-pub mod BatchLemmas
-mod Examples
+pub mod Appending
+pub mod Spelling
+pub mod Texts

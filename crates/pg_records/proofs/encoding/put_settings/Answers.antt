@@ -1,5 +1,5 @@
 use Rattle.std.specs.Int.{to_be_bytes, w32, w64}
-use Rattle.pg_records.proofs.BatchLemmas.{put_four}
+use Rattle.pg_records.proofs.Appending.{put_four}
 use Rattle.pg_records.proofs.encoding.put_settings.Goals as goal
 
 pub returns : goal.returns
