@@ -3,6 +3,8 @@ use Rattle.std.proofs.Common.{◌≡◌, ◌≢◌, inl, inr, ⊎_elim, ℕ, zer
 use Rattle.std.proofs.lemmas.Bool.Decides.{nat_tests}
 use Rattle.std.proofs.lemmas.List.Quantifiers.{position-Some}
 use Rattle.std.proofs.lemmas.List.{length-append}
+use Rattle.std.proofs.lemmas.List.Elements.{All-nil}
+use Rattle.std.proofs.lemmas.Str.{IsUtf8-nil}
 use Rattle.std.specs.Option.{option_map_or}
 use Rattle.std.specs.List.{list_any, list_all}
 use Rattle.std.specs.Prelude.{MatchOption, nat_le, nat_lt, not, ◌&&◌, ◌||◌, is_none, is_some, slice_get, if◌then◌else◌, ◌==◌}
@@ -13,12 +15,13 @@ use Rattle.pg_msg.specs.declared.message.Message.{Message}
 use Rattle.pg_msg.specs.declared.message.MessageId.{MessageId}
 use Rattle.pg_msg.specs.declared.reply.Refusal.TheVariants as refusal
 use Rattle.pg_msg.specs.declared.reply.Reply.TheVariants as answer
-use Rattle.pg_msg.specs.Commands.{IsInRange}
+use Rattle.pg_msg.specs.Commands.{IsInRange, longest_body}
+use Rattle.pg_msg.specs.Messages.{HasFields, IsMessage, IsProperty, weight_of}
 use Rattle.pg_msg.specs.Lists.{Ascends}
 use Rattle.pg_records.specs.declared.entry.Entry.TheVariants as entry
 use Rattle.pg_engine.specs.declared.routes.Routes.{Routes}
 use Rattle.pg_engine.specs.declared.state.Outcome.TheVariants.{Unchanged, Changed}
-use Rattle.pg_engine.specs.Broker.{Address, Queue, Durable, Broker, place_of, queue_named, routed, resident, most_queues, with_queue, with_message, given, holding, next_id, refusal_at, refusal_of_routed, refusal_of, Sends, Does, Refuses, Step}
+use Rattle.pg_engine.specs.Broker.{Address, Queue, Durable, Broker, place_of, queue_named, routed, resident, most_queues, with_queue, with_message, given, holding, plain, queueing, sending, next_id, refusal_at, refusal_of_routed, refusal_of, Sends, Does, Refuses, Step}
 use Rattle.pg_engine.specs.Drawn.{IsDrawn, AllDrawn, AreDrawn, broker_of}
 use Rattle.pg_engine.specs.Fold.{may_add_queue, may_add_message, is_address, same_id, holds_id, given_to, effect}
 use Rattle.pg_engine.specs.Outcomes.{IsOutcome, Records, batch_of_message}
@@ -92,7 +95,7 @@ module _ (s : Broker) (name address : List ℕ) (place : ℕ) where
   d = s.durable
 
   abbrev pub queued : Command
-  queued = command.Queue name address
+  queued = queueing name address
 
   queue_accepted : queue_named d.queues name ≡ None → place_of d.addresses address ≡ Some place → length (routed place d.queues) < most_queues → refusal_of s queued ≡ None
   queue_accepted new is room =
@@ -120,7 +123,7 @@ module _ (s : Broker) (name address : List ℕ) (place : ℕ) where
         accepted = accepted;
         batch = ap (λ o. option_map_or (λ p. entry.Queue d.next (p + 1) name [] ∷ []) o []) is;
         gives = queue_gives new within room number;
-        fields = (omega (arith, number), omega (arith, within, few), fits.0, omega arith);
+        fields = (omega (arith, number), omega (arith, within, few), fits.0, (IsUtf8-nil, omega arith));
       } in
       let step : Step s (Some queued) answer.Done (with_queue s name place) =
       subst (λ o. MatchOption o (Does s queued answer.Done (with_queue s name place)) (λ x. Refuses s x answer.Done (with_queue s name place))) (sym accepted)
@@ -206,34 +209,53 @@ as_many (suc place) m (a ∷ addresses) = ap (λ (n : ℕ). suc n) (as_many plac
 pub added_few : (old new : List Address) (a : Address) → new ≡ old ++ (a ∷ []) → length old < 1000 → length new ≤ 1000
 added_few old new a is room = omega (arith, room, ap length is, length-append old (a ∷ []))
 
+-- a message with a body as a line gives it has its fields in their ranges
+pub fields_plain : (id : MessageId) (body : List ℕ) → 1 ≤ id.epoch → id.epoch < 2 ^ 32 → 1 ≤ id.number → id.number < 2 ^ 32 → length body ≤ longest_body → HasFields (plain id body)
+fields_plain id body begun epoch_fits drawn number_fits short = record {
+  id = record { epoch = begun; epoch_fits = epoch_fits; number = drawn; number_fits = number_fits };
+  dup = tt;
+  properties = record { count = omega arith; each = All-nil IsProperty; distinct = tt };
+  body = omega (arith, short);
+}
+
+-- and weighs 15 bytes more than its body
+pub weight_plain : (id : MessageId) (body : List ℕ) → weight_of (plain id body) ≡ 15 + length body
+weight_plain id body = grind (arith, length-append)
+
+light_plain : (id : MessageId) (body : List ℕ) → 1 ≤ id.epoch → id.epoch < 2 ^ 32 → 1 ≤ id.number → id.number < 2 ^ 32 → length body ≤ longest_body → IsMessage (plain id body)
+light_plain id body begun epoch_fits drawn number_fits short = record {
+  fields = fields_plain id body begun epoch_fits drawn number_fits short;
+  light = omega (arith, weight_plain id body, short);
+}
+
 -- a message that is sent
 module _ (s : Broker) (address body : List ℕ) (place : ℕ) (is : place_of s.durable.addresses address ≡ Some place) (a : Address) (at : slice_get s.durable.addresses place ≡ Some a) where
-  abbrev pub sending : Command
-  sending = command.Send address body
+  abbrev pub sends : Command
+  sends = sending address body
 
-  refusal_is : (n : ℕ) (ns : List ℕ) → routed place s.durable.queues ≡ n ∷ ns → refusal_of s sending ≡ (if nat_le s.ids s.drawn then Some refusal.Line else (if nat_le a.max (resident a) then Some refusal.Line else None))
+  refusal_is : (n : ℕ) (ns : List ℕ) → routed place s.durable.queues ≡ n ∷ ns → refusal_of s sends ≡ (if nat_le s.ids s.drawn then Some refusal.Line else (if nat_le a.max (resident a) then Some refusal.Line else None))
   refusal_is n ns to =
       ap (λ o. option_map_or (λ p. refusal_at s p (slice_get s.durable.addresses p)) o (Some refusal.Address)) is
       ∙ (ap (λ o. refusal_at s place o) at ∙ ap (λ l. refusal_of_routed s a l) to)
 
-  send_refused : (out : Broker) → out ≡ s → refusal_of s sending ≡ Some refusal.Line → IsOutcome s sending (Unchanged out (answer.No refusal.Line))
-  send_refused out same refused = (same, subst (λ o. MatchOption o (Does s sending (answer.No refusal.Line) s) (λ x. Refuses s x (answer.No refusal.Line) s)) (sym refused) (refl, refl))
+  send_refused : (out : Broker) → out ≡ s → refusal_of s sends ≡ Some refusal.Line → IsOutcome s sends (Unchanged out (answer.No refusal.Line))
+  send_refused out same refused = (same, subst (λ o. MatchOption o (Does s sends (answer.No refusal.Line) s) (λ x. Refuses s x (answer.No refusal.Line) s)) (sym refused) (refl, refl))
 
-  pub send_spent : (numbers : List ℕ) → numbers ≡ routed place s.durable.queues → numbers ≢ [] → s.ids ≤ s.drawn → IsOutcome s sending (Unchanged s (answer.No refusal.Line))
+  pub send_spent : (numbers : List ℕ) → numbers ≡ routed place s.durable.queues → numbers ≢ [] → s.ids ≤ s.drawn → IsOutcome s sends (Unchanged s (answer.No refusal.Line))
   send_spent [] same some spent = absurd (some refl)
   send_spent (n ∷ ns) same some spent =
       send_refused s refl (refusal_is n ns (sym same) ∙ ap (λ (b : Bool). if b then Some refusal.Line else (if nat_le a.max (resident a) then Some refusal.Line else None)) (at_least s.ids s.drawn spent))
 
-  pub send_full : (numbers : List ℕ) → numbers ≡ routed place s.durable.queues → numbers ≢ [] → s.drawn < s.ids → nat_le a.max (resident a) ≡ true → IsOutcome s sending (Unchanged s (answer.No refusal.Line))
+  pub send_full : (numbers : List ℕ) → numbers ≡ routed place s.durable.queues → numbers ≢ [] → s.drawn < s.ids → nat_le a.max (resident a) ≡ true → IsOutcome s sends (Unchanged s (answer.No refusal.Line))
   send_full [] same some left full = absurd (some refl)
   send_full (n ∷ ns) same some left full =
       send_refused s refl (refusal_is n ns (sym same) ∙ (ap (λ (b : Bool). if b then Some refusal.Line else (if nat_le a.max (resident a) then Some refusal.Line else None)) (not_at_least s.ids s.drawn left)
       ∙ ap (λ (b : Bool). if b then Some refusal.Line else None) full))
 
   module _ (left : s.drawn < s.ids) (room : nat_le a.max (resident a) ≡ false) (few : length s.durable.addresses ≤ 1000) (begun : 1 ≤ s.durable.epoch) (epoch_fits : s.durable.epoch < 2 ^ 32) (number_fits : s.drawn + 1 < 2 ^ 32)
-      (fits : IsInRange sending) (drawn : AreDrawn s.durable.epoch s.drawn s.durable.addresses) where
+      (fits : IsInRange sends) (drawn : AreDrawn s.durable.epoch s.drawn s.durable.addresses) where
     abbrev sent : Message
-    sent = record { id = next_id s; body = body }
+    sent = plain (next_id s) body
 
     abbrev held : ℕ → List Queue → Durable
     held p queues = record { epoch = s.durable.epoch; next = s.durable.next; addresses = holding p sent s.durable.addresses; queues = queues }
@@ -252,27 +274,27 @@ module _ (s : Broker) (address body : List ℕ) (place : ℕ) (is : place_of s.d
         ∙ ap (λ (qs : List Queue). Some (held place qs)) (given_all place numbers sent s.durable.queues (λ n there. subst (λ (l : List ℕ). list_any (λ r. n == r) l ≡ true) (sym same) there)))
 
     pub send_outcome : (t : Broker) (copy numbers : List ℕ) → numbers ≡ routed place s.durable.queues → numbers ≢ [] → Ascends numbers → length numbers ≤ 1000 → All (λ n. n < 2 ^ 32) numbers
-        → t ≡ with_message s place (record { id = next_id s; body = body }) → copy ≡ body → IsOutcome s sending (Changed t (entry.Add (place + 1) numbers (record { id = next_id s; body = copy })) (answer.Sent (next_id s)))
+        → t ≡ with_message s place (plain (next_id s) body) → copy ≡ body → IsOutcome s sends (Changed t (entry.Add (place + 1) numbers (plain (next_id s) copy)) (answer.Sent (next_id s)))
     send_outcome t copy [] same some ascending short each now copied = absurd (some refl)
     send_outcome t copy (n ∷ ns) same some ascending short each now copied =
-        let accepted : refusal_of s sending ≡ None = refusal_is n ns (sym same) ∙ (ap (λ (b : Bool). if b then Some refusal.Line else (if nat_le a.max (resident a) then Some refusal.Line else None)) (not_at_least s.ids s.drawn left)
+        let accepted : refusal_of s sends ≡ None = refusal_is n ns (sym same) ∙ (ap (λ (b : Bool). if b then Some refusal.Line else (if nat_le a.max (resident a) then Some refusal.Line else None)) (not_at_least s.ids s.drawn left)
         ∙ ap (λ (b : Bool). if b then Some refusal.Line else None) room) in
-        let step : Step s (Some sending) (answer.Sent (next_id s)) (with_message s place sent) =
-        subst (λ o. MatchOption o (Does s sending (answer.Sent (next_id s)) (with_message s place sent)) (λ x. Refuses s x (answer.Sent (next_id s)) (with_message s place sent))) (sym accepted)
+        let step : Step s (Some sends) (answer.Sent (next_id s)) (with_message s place sent) =
+        subst (λ o. MatchOption o (Does s sends (answer.Sent (next_id s)) (with_message s place sent)) (λ x. Refuses s x (answer.Sent (next_id s)) (with_message s place sent))) (sym accepted)
         (subst (λ o. MatchOption o ⊥ (λ p. Sends s p body (routed p s.durable.queues) (answer.Sent (next_id s)) (with_message s place sent))) (sym is)
         (subst (λ (l : List ℕ). Sends s place body l (answer.Sent (next_id s)) (with_message s place sent)) same (refl, refl))) in
-        let records : Records s sending (entry.Add (place + 1) (n ∷ ns) sent) (with_message s place sent) = record {
+        let records : Records s sends (entry.Add (place + 1) (n ∷ ns) sent) (with_message s place sent) = record {
           accepted = accepted;
           batch = ap (λ o. option_map_or (λ p. batch_of_message s p body (routed p s.durable.queues)) o []) is ∙ ap (λ (l : List ℕ). batch_of_message s place body l) (sym same);
           gives = send_gives (n ∷ ns) same;
           fields = (
             omega (arith, within, few),
             record { count = (omega arith, short); each = each; ascending = ascending },
-            record { epoch = begun; epoch_fits = epoch_fits; number = omega arith; number_fits = number_fits; light = omega (arith, fits.1) },
+            light_plain (next_id s) body begun epoch_fits (omega arith) number_fits fits.1,
           );
         } in
-        subst (λ x. IsOutcome s sending (Changed x (entry.Add (place + 1) (n ∷ ns) (record { id = next_id s; body = copy })) (answer.Sent (next_id s)))) (sym now)
-        (subst (λ x. IsOutcome s sending (Changed (with_message s place sent) (entry.Add (place + 1) (n ∷ ns) (record { id = next_id s; body = x })) (answer.Sent (next_id s)))) (sym copied) (step, records))
+        subst (λ x. IsOutcome s sends (Changed x (entry.Add (place + 1) (n ∷ ns) (plain (next_id s) copy)) (answer.Sent (next_id s)))) (sym now)
+        (subst (λ x. IsOutcome s sends (Changed (with_message s place sent) (entry.Add (place + 1) (n ∷ ns) (plain (next_id s) x)) (answer.Sent (next_id s)))) (sym copied) (step, records))
 
 -- no queue has the name
 pub unnamed : (o : Option Queue) → is_some o ≡ false → o ≡ None

@@ -4,6 +4,7 @@ use Rattle.std.specs.Option.{option_map_or}
 use Rattle.std.specs.Str.{bytes_eq}
 use Rattle.pg_msg.specs.declared.command.Command.{Command}
 use Rattle.pg_msg.specs.declared.command.Command.TheVariants as command
+use Rattle.pg_msg.specs.declared.message.Body.TheVariants.{Plain}
 use Rattle.pg_msg.specs.declared.message.Message.{Message}
 use Rattle.pg_msg.specs.declared.message.MessageId.{MessageId}
 use Rattle.pg_msg.specs.declared.reply.Refusal.{Refusal}
@@ -113,6 +114,17 @@ with_message s place m = record {
   ids = s.ids;
 }
 
+-- a message with a body alone
+abbrev pub plain : MessageId → List ℕ → Message
+plain id body = record { id = id; dup = None; properties = []; body = Plain body }
+
+-- the command that makes a queue without a filter, and the one that sends a message with a body alone
+abbrev pub queueing : List ℕ → List ℕ → Command
+queueing name address = command.Queue name address None
+
+abbrev pub sending : List ℕ → List ℕ → Command
+sending address body = command.Send address None None [] body
+
 -- the id that is drawn next
 abbrev pub next_id : Broker → MessageId
 next_id s = record { epoch = s.durable.epoch; number = s.drawn + 1 }
@@ -126,28 +138,30 @@ abbrev pub refusal_at : Broker → ℕ → Option Address → Option Refusal
 refusal_at s place None = None
 refusal_at s place (Some a) = refusal_of_routed s a (routed place s.durable.queues)
 
--- the first cause of a refusal that holds
+-- The first cause of a refusal that holds. A command that isn't built is refused as an unreadable line is.
 abbrev pub refusal_of : Broker → Command → Option Refusal
 refusal_of s (command.Address name max page ahead dup) =
     option_map_or (λ place. Some refusal.Name) (place_of s.durable.addresses name) (if nat_le most_addresses (length s.durable.addresses) then Some refusal.Line else None)
-refusal_of s (command.Queue name address) =
+refusal_of s (command.Queue name address None) =
     option_map_or (λ q. Some refusal.Name) (queue_named s.durable.queues name)
     (option_map_or (λ place. if nat_le most_queues (length (routed place s.durable.queues)) then Some refusal.Line else None) (place_of s.durable.addresses address) (Some refusal.Address))
-refusal_of s (command.Send address body) = option_map_or (λ place. refusal_at s place (slice_get s.durable.addresses place)) (place_of s.durable.addresses address) (Some refusal.Address)
+refusal_of s (command.Send address None None [] body) = option_map_or (λ place. refusal_at s place (slice_get s.durable.addresses place)) (place_of s.durable.addresses address) (Some refusal.Address)
 refusal_of s (command.Count queue) = option_map_or (λ q. None) (queue_named s.durable.queues queue) (Some refusal.Queue)
+refusal_of s _ = Some refusal.Line
 
 -- a message that isn't refused goes to the queues of its address, if there are any
 abbrev pub Sends : Broker → ℕ → List ℕ → List ℕ → Reply → Broker → Type 0
 Sends s place body [] reply t = (reply ≡ answer.Unrouted) × (t ≡ s)
-Sends s place body (number ∷ numbers) reply t = (reply ≡ answer.Sent (next_id s)) × (t ≡ with_message s place (record { id = next_id s; body = body }))
+Sends s place body (number ∷ numbers) reply t = (reply ≡ answer.Sent (next_id s)) × (t ≡ with_message s place (plain (next_id s) body))
 
 -- what a command that isn't refused does
 abbrev pub Does : Broker → Command → Reply → Broker → Type 0
 Does s (command.Address name max page ahead dup) reply t =
     (reply ≡ answer.Done) × (t ≡ with_address s (record { name = name; max = max; page = page; ahead = ahead; dup = dup; held = [] }))
-Does s (command.Queue name address) reply t = MatchOption (place_of s.durable.addresses address) ⊥ (λ place. (reply ≡ answer.Done) × (t ≡ with_queue s name place))
-Does s (command.Send address body) reply t = MatchOption (place_of s.durable.addresses address) ⊥ (λ place. Sends s place body (routed place s.durable.queues) reply t)
+Does s (command.Queue name address None) reply t = MatchOption (place_of s.durable.addresses address) ⊥ (λ place. (reply ≡ answer.Done) × (t ≡ with_queue s name place))
+Does s (command.Send address None None [] body) reply t = MatchOption (place_of s.durable.addresses address) ⊥ (λ place. Sends s place body (routed place s.durable.queues) reply t)
 Does s (command.Count queue) reply t = MatchOption (queue_named s.durable.queues queue) ⊥ (λ q. (reply ≡ answer.Count (length q.messages)) × (t ≡ s))
+Does s _ reply t = ⊥
 
 -- after a refusal all is as before
 abbrev pub Refuses : Broker → Refusal → Reply → Broker → Type 0

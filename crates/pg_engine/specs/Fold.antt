@@ -44,7 +44,7 @@ given_to place numbers m [] = []
 given_to place numbers m (q ∷ queues) =
     (if (q.address == place) && list_any (λ n. q.number == n) numbers then record q { messages = q.messages ++ (m ∷ []) } else q) ∷ given_to place numbers m queues
 
--- what an entry does, where its condition holds
+-- what an entry does, where its condition holds; the other entries aren't built
 abbrev pub effect : Durable → Entry → Option Durable
 effect d (entry.Epoch epoch) = if nat_lt d.epoch epoch then Some (record d { epoch = epoch }) else None
 effect d (entry.Address address name max page ahead dup) =
@@ -59,6 +59,7 @@ effect d (entry.Add address numbers m) =
     if may_add_message d address numbers m
     then Some (record d { addresses = holding (address - 1) m d.addresses; queues = given_to (address - 1) numbers m d.queues })
     else None
+effect d _ = None
 
 -- the entries in their order; none where the condition of one fails
 abbrev pub fold_entries : Durable → List Entry → Option Durable

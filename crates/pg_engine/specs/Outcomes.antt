@@ -5,32 +5,31 @@ use Rattle.pg_disk.specs.declared.fault.Fault.{Fault}
 use Rattle.pg_disk.specs.declared.fault.Fault.TheVariants.{Failed, Damaged, Spent, Memory}
 use Rattle.pg_msg.specs.declared.command.Command.{Command}
 use Rattle.pg_msg.specs.declared.command.Command.TheVariants as command
+use Rattle.pg_msg.specs.Replies.{IsBuilt}
 use Rattle.pg_records.specs.declared.entry.Entry.{Entry}
 use Rattle.pg_records.specs.declared.entry.Entry.TheVariants as entry
 use Rattle.pg_records.specs.Entries.{HasFields}
 use Rattle.pg_engine.specs.declared.state.Outcome.{Outcome}
 use Rattle.pg_engine.specs.declared.state.Outcome.TheVariants.{Unchanged, Changed}
-use Rattle.pg_engine.specs.Broker.{Broker, place_of, routed, next_id, refusal_of, Step}
+use Rattle.pg_engine.specs.Broker.{Broker, place_of, routed, next_id, plain, refusal_of, Step}
 use Rattle.pg_engine.specs.Fold.{effect}
 
 -- the entry of a message that goes to these queues
 abbrev pub batch_of_message : Broker → ℕ → List ℕ → List ℕ → List Entry
 batch_of_message s place body [] = []
-batch_of_message s place body (number ∷ numbers) = entry.Add (place + 1) (number ∷ numbers) (record { id = next_id s; body = body }) ∷ []
+batch_of_message s place body (number ∷ numbers) = entry.Add (place + 1) (number ∷ numbers) (plain (next_id s) body) ∷ []
 
 -- the entries of the batch that a command writes where it isn't refused; one without entries writes nothing
 abbrev pub batch_of : Broker → Command → List Entry
 batch_of s (command.Address name max page ahead dup) = entry.Address (length s.durable.addresses + 1) name max page ahead dup ∷ []
-batch_of s (command.Queue name address) = option_map_or (λ place. entry.Queue s.durable.next (place + 1) name [] ∷ []) (place_of s.durable.addresses address) []
-batch_of s (command.Send address body) = option_map_or (λ place. batch_of_message s place body (routed place s.durable.queues)) (place_of s.durable.addresses address) []
-batch_of s (command.Count queue) = []
+batch_of s (command.Queue name address None) = option_map_or (λ place. entry.Queue s.durable.next (place + 1) name [] ∷ []) (place_of s.durable.addresses address) []
+batch_of s (command.Send address None None [] body) = option_map_or (λ place. batch_of_message s place body (routed place s.durable.queues)) (place_of s.durable.addresses address) []
+batch_of s _ = []
 
 -- no number is left for a further queue
 abbrev pub HasNoNumber : Broker → Command → Type 0
-HasNoNumber s (command.Address name max page ahead dup) = ⊥
-HasNoNumber s (command.Queue name address) = 4294967295 ≤ s.durable.next
-HasNoNumber s (command.Send address body) = ⊥
-HasNoNumber s (command.Count queue) = ⊥
+HasNoNumber s (command.Queue name address None) = 4294967295 ≤ s.durable.next
+HasNoNumber s _ = ⊥
 
 -- the command isn't refused, and the entry of its batch gives the state after it
 pub record Records (s : Broker) (command : Command) (entry : Entry) (t : Broker) : Type 0 where
@@ -43,6 +42,11 @@ pub record Records (s : Broker) (command : Command) (entry : Entry) (t : Broker)
 abbrev pub IsOutcome : Broker → Command → Outcome → Type 0
 IsOutcome s command (Unchanged t reply) = (t ≡ s) × Step s (Some command) reply s
 IsOutcome s command (Changed t entry reply) = Step s (Some command) reply t × Records s command entry t
+
+-- the reply is one that is built
+abbrev pub TellsBuilt : Outcome → Type 0
+TellsBuilt (Unchanged t reply) = IsBuilt reply
+TellsBuilt (Changed t entry reply) = IsBuilt reply
 
 -- no outcome: for want of memory, or where a command that isn't refused finds no number
 abbrev pub IsNoOutcome : Broker → Command → Fault → Type 0

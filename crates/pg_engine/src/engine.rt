@@ -1,8 +1,9 @@
 // The broker over its journal: each command that changes the state is one batch.
-ghost use Rattle.std.specs.Prelude.{◌≡◌, ◌⊎◌, ◌<◌, ◌+◌, ◌^◌, Option, Some, IsErr, IfErr, IsErrOf};
+ghost use Rattle.std.specs.Prelude.{◌≡◌, ◌⊎◌, ◌<◌, ◌+◌, ◌^◌, Option, Some, IsErr, IfOk, IfErr, IsErrOf};
 ghost use Rattle.pg_disk.specs.Account.{account, IsHonest};
 ghost use Rattle.pg_disk.specs.Counts.{CountsFault};
 ghost use Rattle.pg_msg.specs.Commands.{IsInRange};
+ghost use Rattle.pg_msg.specs.Replies.{IsBuilt};
 ghost use Rattle.pg_engine.specs.Executed.{Owns, Executes, MeetsLimit, state_of};
 ghost use Rattle.pg_engine.specs.Opened.{IsDamaged};
 
@@ -32,6 +33,7 @@ impl Engine {
         requires own { IsHonest (D.tells disk.old) → Owns self (account (D.tells disk.old)).files }
         requires in_range { IsInRange command }
         ensures executes { IsHonest (D.tells disk.old) → (IsErr result × (disk.new ≡ disk.old)) ⊎ Executes D.moment D.left_since D.tells (state_of self) (Some command) disk.old disk.new result }
+        ensures built { IfOk result (λ done. IsBuilt done.1) }
         ensures back { IsHonest (D.tells disk.new) → IsHonest (D.tells disk.old) }
         ensures never_damaged { IfErr result (λ fault. IsDamaged fault → ⊥) }
         ensures untouched { IsErrOf result Fault.Spent → disk.new ≡ disk.old }

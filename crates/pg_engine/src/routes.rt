@@ -3,7 +3,7 @@ ghost use Rattle.std.specs.Prelude.{◌≡◌, ◌+◌, ◌<◌, ◌≤◌, ◌^
 ghost use Rattle.std.specs.Option.{option_map};
 ghost use Rattle.indexmap.specs.IndexMap.{index_map_len};
 ghost use Rattle.pg_msg.specs.Lists.{Ascends};
-ghost use Rattle.pg_msg.specs.Messages.{weight_of};
+ghost use Rattle.pg_msg.specs.Messages.{HasFields, weight_of};
 ghost use Rattle.pg_engine.specs.Broker.{Address, place_of, queue_named, routed, resident, given, holding};
 ghost use Rattle.pg_engine.specs.Rows.{addresses_of, queues_of, address_row, queue_row, Lists, IsSound};
 
@@ -51,6 +51,7 @@ pub struct Routes {
 impl AddressEntry {
     // Holds a message more.
     fn hold(&mut self, message: Message) -> Result<(), AllocError>
+        requires { HasFields message }
         ensures messages { OnOk result (self.new.messages.items ≡ self.old.messages.items ++ message ∷ []) }
         ensures settings { OnOk result (self.new.settings ≡ self.old.settings) }
         ensures queues { OnOk result (self.new.queues.items ≡ self.old.queues.items) }
@@ -213,6 +214,7 @@ impl Routes {
 
     /// Holds a message for the address at that place, and so gives it to each of its queues.
     pub fn hold(&mut self, place: usize, message: Message) -> Result<(), AllocError>
+        requires { HasFields message }
         ensures addresses { OnOk result (addresses_of self.new ≡ holding place message (addresses_of self.old)) }
         ensures queues { OnOk result (IsSound self.old → queues_of self.new ≡ given place message (queues_of self.old)) }
         ensures next { OnOk result (self.new.next ≡ self.old.next) }
@@ -229,7 +231,7 @@ impl Routes {
 mod tests {
     use super::*;
     use pg_bytes::Octets;
-    use pg_msg::MessageId;
+    use pg_msg::{Body, MessageId, Properties};
     use std::test::Fail;
 
     #[test]
@@ -245,7 +247,9 @@ mod tests {
                 epoch: 1,
                 number: 1,
             },
-            body: Octets::from_slice(rt.alloc(), b"hello")?,
+            dup: None,
+            properties: Properties::new(rt.alloc()),
+            body: Body::Plain(Octets::from_slice(rt.alloc(), b"hello")?),
         };
         let address = Text::from_str(rt.alloc(), "a")?;
         let queue = Text::from_str(rt.alloc(), "q")?;

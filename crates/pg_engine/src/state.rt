@@ -1,15 +1,17 @@
 // The state of the broker in memory, and what each command does to it.
-ghost use Rattle.std.specs.Prelude.{◌≡◌, ◌≤◌, ◌<◌, ◌+◌, Some, None, IfOk, IfErr, slice_get, length};
+ghost use Rattle.std.specs.Prelude.{◌≡◌, ◌≤◌, ◌<◌, ◌+◌, Some, None, IfOk, IfErr, OnOk, slice_get, length};
 ghost use Rattle.pg_msg.specs.Names.{IsName};
 ghost use Rattle.pg_msg.specs.Commands.{IsInRange, AreSettings, longest_body};
-ghost use Rattle.pg_engine.specs.Broker.{Address, place_of, routed, resident, opened_from, fresh};
+ghost use Rattle.pg_msg.specs.Messages.{HasFields, weight_of};
+ghost use Rattle.pg_engine.specs.Broker.{Address, given, holding, plain, queueing, sending, place_of, routed, resident, opened_from, fresh};
 ghost use Rattle.pg_engine.specs.Drawn.{broker_of, IsFit};
-ghost use Rattle.pg_engine.specs.Outcomes.{IsOutcome, IsNoOutcome};
+ghost use Rattle.pg_engine.specs.Outcomes.{IsOutcome, IsNoOutcome, TellsBuilt};
+ghost use Rattle.pg_engine.specs.Rows.{IsSound, addresses_of, queues_of};
 
 use crate::routes::{Routes, Settings};
 use pg_bytes::{Octets, Text};
 use pg_disk::Fault;
-use pg_msg::{Command, Message, MessageId, QueueIds, Refusal, Reply};
+use pg_msg::{Body, Command, Message, MessageId, Properties, QueueIds, Refusal, Reply};
 use pg_records::Entry;
 use std::alloc::{AllocError, Global};
 use std::marker::Model;
@@ -77,6 +79,7 @@ impl State {
     pub fn execute(self, alloc: Global, command: Command) -> Result<Outcome, Fault>
         requires { IsInRange command }
         ensures outcome { IfOk result (λ outcome. IsOutcome self command outcome) }
+        ensures built { IfOk result TellsBuilt }
         ensures none { IfErr result (λ fault. IsNoOutcome self command fault) }
     {
         match command {
@@ -96,9 +99,12 @@ impl State {
                     dup,
                 },
             ),
-            Command::Queue { name, address } => self.add_queue(alloc, name, address),
-            Command::Send { address, body } => self.send(alloc, address, body),
+            // By the range of a command, a queue has no filter and a message has a body alone.
+            Command::Queue { name, address, .. } => self.add_queue(alloc, name, address),
+            Command::Send { address, body, .. } => self.send(alloc, address, body),
             Command::Count { queue } => Ok(self.count(queue)),
+            // No other command is built.
+            _ => Ok(self.unchanged(Reply::No(Refusal::Line))),
         }
     }
 
@@ -106,6 +112,7 @@ impl State {
     fn add_address(self, alloc: Global, name: Text, settings: Settings) -> Result<Outcome, Fault>
         requires { IsInRange (Command.Address name settings.max settings.page settings.ahead settings.dup) }
         ensures outcome { IfOk result (λ outcome. IsOutcome self (Command.Address name settings.max settings.page settings.ahead settings.dup) outcome) }
+        ensures built { IfOk result TellsBuilt }
         ensures none { IfErr result (λ fault. fault ≡ Fault.Memory) }
     {
         if self.routes.place(&name).is_some() {
@@ -144,9 +151,10 @@ impl State {
 
     // The command `queue`.
     fn add_queue(self, alloc: Global, name: Text, address: Text) -> Result<Outcome, Fault>
-        requires { IsInRange (Command.Queue name address) }
-        ensures outcome { IfOk result (λ outcome. IsOutcome self (Command.Queue name address) outcome) }
-        ensures none { IfErr result (λ fault. IsNoOutcome self (Command.Queue name address) fault) }
+        requires { IsInRange (queueing name address) }
+        ensures outcome { IfOk result (λ outcome. IsOutcome self (queueing name address) outcome) }
+        ensures built { IfOk result TellsBuilt }
+        ensures none { IfErr result (λ fault. IsNoOutcome self (queueing name address) fault) }
     {
         if self.routes.has_queue(&name) {
             return Ok(self.unchanged(Reply::No(Refusal::Name)));
@@ -189,8 +197,9 @@ impl State {
 
     // The command `send`.
     fn send(self, alloc: Global, address: Text, body: Octets) -> Result<Outcome, Fault>
-        requires { IsInRange (Command.Send address body) }
-        ensures outcome { IfOk result (λ outcome. IsOutcome self (Command.Send address body) outcome) }
+        requires { IsInRange (sending address body) }
+        ensures outcome { IfOk result (λ outcome. IsOutcome self (sending address body) outcome) }
+        ensures built { IfOk result TellsBuilt }
         ensures none { IfErr result (λ fault. fault ≡ Fault.Memory) }
     {
         let place = match self.routes.place(&address) {
@@ -213,14 +222,14 @@ impl State {
             epoch: self.epoch,
             number,
         };
-        let entry = add_entry(place as u32 + 1, queues, id, &body)?;
+        let entry = add_entry(alloc, place as u32 + 1, queues, id, &body)?;
         let State {
             epoch,
             drawn: _,
             ids,
             mut routes,
         } = self;
-        routes.hold(place, Message { id, body })?;
+        hold_plain(alloc, &mut routes, place, id, body)?;
         Ok(Outcome::Changed {
             state: State {
                 epoch,
@@ -235,7 +244,8 @@ impl State {
 
     // The command `count`.
     fn count(self, queue: Text) -> Outcome
-        ensures { IsOutcome self (Command.Count queue) result }
+        ensures outcome { IsOutcome self (Command.Count queue) result }
+        ensures built { TellsBuilt result }
     {
         match self.routes.message_count(&queue) {
             Some(count) => self.unchanged(Reply::Count(count)),
@@ -251,21 +261,48 @@ impl State {
     }
 }
 
+// A message with a body alone.
+fn plain_message(alloc: Global, id: MessageId, body: Octets) -> Message
+    ensures { result ≡ plain id body }
+{
+    Message {
+        id,
+        dup: None,
+        properties: Properties::new(alloc),
+        body: Body::Plain(body),
+    }
+}
+
+// Holds a message with a body alone.
+fn hold_plain(
+    alloc: Global,
+    routes: &mut Routes,
+    place: usize,
+    id: MessageId,
+    body: Octets,
+) -> Result<(), AllocError>
+    requires { HasFields (plain id body) }
+    ensures addresses { OnOk result (addresses_of routes.new ≡ holding place (plain id body) (addresses_of routes.old)) }
+    ensures queues { OnOk result (IsSound routes.old → queues_of routes.new ≡ given place (plain id body) (queues_of routes.old)) }
+    ensures next { OnOk result (routes.new.next ≡ routes.old.next) }
+    ensures sound { OnOk result (IsSound routes.old → (a : Address) → slice_get (addresses_of routes.old) place ≡ Some a → resident a < a.max → weight_of (plain id body) ≤ 102399 → IsSound routes.new) }
+{
+    routes.hold(place, plain_message(alloc, id, body))
+}
+
 // The entry of a message that goes to these queues.
 fn add_entry(
+    alloc: Global,
     address: u32,
     queues: QueueIds,
     id: MessageId,
     body: &Octets,
 ) -> Result<Entry, AllocError>
-    ensures { IfOk result (λ entry. entry ≡ Entry.Add address queues (record { id = id; body = body.now })) }
+    ensures { IfOk result (λ entry. entry ≡ Entry.Add address queues (plain id body.now)) }
 {
     Ok(Entry::Add {
         address,
         queues,
-        message: Message {
-            id,
-            body: body.copy()?,
-        },
+        message: plain_message(alloc, id, body.copy()?),
     })
 }

@@ -1,11 +1,12 @@
 // One line: it is executed, and its reply is told.
-ghost use Rattle.std.specs.Prelude.{◌≡◌, ◌⊎◌, Option, Some, is_ok, IsErr, IfErr, IsErrOf};
+ghost use Rattle.std.specs.Prelude.{◌≡◌, ◌⊎◌, Option, Some, is_ok, IsErr, IfOk, IfErr, IsErrOf};
 ghost use Rattle.pg_disk.specs.Account.{account, IsHonest};
 ghost use Rattle.pg_disk.specs.Calls.{Changes, Emits};
 ghost use Rattle.pg_disk.specs.Counts.{CountsFault, CountsSiteFault};
 ghost use Rattle.pg_disk.specs.Image.{LeavesPrefix};
 ghost use Rattle.pg_disk.specs.Moments.{Within};
 ghost use Rattle.pg_msg.specs.declared.command.Command.{Command};
+ghost use Rattle.pg_msg.specs.Replies.{IsBuilt};
 ghost use Rattle.pg_text.specs.Spelling.{ReadsAs};
 ghost use Rattle.pg_engine.specs.Executed.{Owns, Executes, MeetsLimit, state_of};
 ghost use Rattle.pg_engine.specs.Opened.{IsDamaged};
@@ -49,6 +50,7 @@ fn exec_line<D: Disk>(
     requires { IsHonest (D.tells disk.old) → Owns engine (account (D.tells disk.old)).files }
     ensures executes { IsHonest (D.tells disk.old) → (IsErr result × (disk.new ≡ disk.old))
         ⊎ ((item : Option Command) × ReadsAs line.now item × Executes D.moment D.left_since D.tells (state_of engine) item disk.old disk.new result) }
+    ensures built { IfOk result (λ done. IsBuilt done.1) }
     ensures back { IsHonest (D.tells disk.new) → IsHonest (D.tells disk.old) }
     ensures never_damaged { IfErr result (λ fault. IsDamaged fault → ⊥) }
     ensures untouched { IsErrOf result Fault.Spent → disk.new ≡ disk.old }

@@ -1,5 +1,5 @@
 -- The command that a line spells, from the pieces of the line.
-use Rattle.std.proofs.Common.{◌≡◌, ◌≢◌, ℕ, ◌<◌, ◌≤◌, List, ◌∷◌, ◌++◌, length, codes, refl, sym, subst, ap, ◌∙◌, arith}
+use Rattle.std.proofs.Common.{◌≡◌, ◌≢◌, ℕ, ◌<◌, ◌≤◌, List, [], ◌∷◌, ◌++◌, length, None, codes, refl, sym, subst, ap, ◌∙◌, arith}
 use Rattle.std.proofs.lemmas.List.{append_cancel_left}
 use Rattle.pg_msg.specs.declared.command.Command.{Command}
 use Rattle.pg_msg.specs.declared.command.Command.TheVariants.{Address, Queue, Send, Count}
@@ -41,9 +41,10 @@ address_arguments arguments (Address name max page ahead dup) spells = record {
   are_settings = spells.in_range.1;
   bytes = append_cancel_left (codes "address ") arguments (name ++ settings_text max page ahead dup) spells.bytes;
 }
-address_arguments arguments (Queue name address) spells = absurd (omega (arith, first_same _ _ _ _ spells.bytes))
-address_arguments arguments (Send address body) spells = absurd (omega (arith, first_same _ _ _ _ spells.bytes))
+address_arguments arguments (Queue name address filter) spells = absurd (omega (arith, first_same _ _ _ _ spells.bytes))
+address_arguments arguments (Send address tx id properties body) spells = absurd (omega (arith, first_same _ _ _ _ spells.bytes))
 address_arguments arguments (Count queue) spells = absurd (omega (arith, first_same _ _ _ _ spells.bytes))
+address_arguments arguments _ spells = absurd spells.in_range
 
 -- the names that the arguments of `queue` give
 record QueueArguments (arguments : List ℕ) : Type 0 where
@@ -55,7 +56,7 @@ record QueueArguments (arguments : List ℕ) : Type 0 where
 
 -- a command that begins with `queue` is a queue
 queue_arguments : (arguments : List ℕ) (command : Command) → Spells (codes "queue " ++ arguments) command → QueueArguments arguments
-queue_arguments arguments (Queue name address) spells = record {
+queue_arguments arguments (Queue name address None) spells = record {
   name = name;
   address = address;
   is_name = spells.in_range.0;
@@ -63,8 +64,9 @@ queue_arguments arguments (Queue name address) spells = record {
   bytes = append_cancel_left (codes "queue ") arguments (name ++ (codes " on " ++ address)) spells.bytes;
 }
 queue_arguments arguments (Address name max page ahead dup) spells = absurd (omega (arith, first_same _ _ _ _ spells.bytes))
-queue_arguments arguments (Send address body) spells = absurd (omega (arith, first_same _ _ _ _ spells.bytes))
+queue_arguments arguments (Send address tx id properties body) spells = absurd (omega (arith, first_same _ _ _ _ spells.bytes))
 queue_arguments arguments (Count queue) spells = absurd (omega (arith, first_same _ _ _ _ spells.bytes))
+queue_arguments arguments _ spells = absurd spells.in_range
 
 -- the name and the body that the arguments of `send` give
 record SendArguments (arguments : List ℕ) : Type 0 where
@@ -76,7 +78,7 @@ record SendArguments (arguments : List ℕ) : Type 0 where
 
 -- a command that begins with `send` sends a message
 send_arguments : (arguments : List ℕ) (command : Command) → Spells (codes "send " ++ arguments) command → SendArguments arguments
-send_arguments arguments (Send address body) spells = record {
+send_arguments arguments (Send address None None [] body) spells = record {
   address = address;
   body = body;
   is_address = spells.in_range.0;
@@ -84,8 +86,9 @@ send_arguments arguments (Send address body) spells = record {
   bytes = append_cancel_left (codes "send ") arguments (address ++ (codes " body " ++ body)) spells.bytes;
 }
 send_arguments arguments (Address name max page ahead dup) spells = absurd (omega (arith, first_same _ _ _ _ spells.bytes))
-send_arguments arguments (Queue name address) spells = absurd (omega (arith, first_same _ _ _ _ spells.bytes))
+send_arguments arguments (Queue name address filter) spells = absurd (omega (arith, first_same _ _ _ _ spells.bytes))
 send_arguments arguments (Count queue) spells = absurd (omega (arith, first_same _ _ _ _ spells.bytes))
+send_arguments arguments _ spells = absurd spells.in_range
 
 -- where no settings follow the name, the arguments are those of no address
 pub no_address : (arguments name rest : List ℕ) → BeginsWithName arguments name rest → ((max page ahead dup : ℕ) → AreSettings max page ahead dup → rest ≢ settings_text max page ahead dup) → (command : Command) → Spells (codes "address " ++ arguments) command → ⊥

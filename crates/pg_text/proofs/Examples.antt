@@ -1,5 +1,5 @@
 -- The definitions, computed on small examples.
-use Rattle.std.proofs.Common.{◌≡◌, [], ◌∷◌, ◌++◌, codes, refl, inl, arith}
+use Rattle.std.proofs.Common.{◌≡◌, [], ◌∷◌, ◌++◌, None, codes, refl, inl, arith}
 use Rattle.std.proofs.lemmas.List.Elements.{All-cons, All-nil}
 use Rattle.std.specs.Fmt.{digits}
 use Rattle.pg_msg.specs.declared.command.Command.TheVariants.{Address, Send}
@@ -42,5 +42,5 @@ address_spelled = record {
 }
 
 -- a message whose body begins with a space
-send_spelled : Spells (codes "send A body  a") (Send (65 ∷ []) (32 ∷ 97 ∷ []))
+send_spelled : Spells (codes "send A body  a") (Send (65 ∷ []) None None [] (32 ∷ 97 ∷ []))
 send_spelled = record { bytes = refl; in_range = (name_A, omega arith) }

@@ -7,22 +7,26 @@ use Rattle.pg_msg.specs.declared.reply.Reply.TheVariants.{Done, No, Sent, Unrout
 use Rattle.pg_msg.specs.declared.reply.Refusal.{Refusal}
 use Rattle.pg_msg.specs.declared.reply.Refusal.TheVariants.{Line, Name, Address, Queue}
 
+-- the word of a refusal that is built; the others have none yet
 abbrev pub refusal_word : Refusal → List ℕ
 refusal_word Line = codes "line"
 refusal_word Name = codes "name"
 refusal_word Address = codes "address"
 refusal_word Queue = codes "queue"
+refusal_word _ = []
 
 -- `E-N`
 abbrev pub id_text : MessageId → List ℕ
 id_text id = decimal id.epoch ++ (45 ∷ decimal id.number)
 
+-- the text of a reply that is built; the others have none yet
 abbrev pub reply_text : Reply → List ℕ
 reply_text Done = codes "ok"
 reply_text (No refusal) = codes "no " ++ refusal_word refusal
 reply_text (Sent id) = codes "sent " ++ id_text id
 reply_text Unrouted = codes "unrouted"
 reply_text (Count count) = codes "count " ++ decimal count
+reply_text _ = []
 
 -- with its line end
 abbrev pub reply_line : Reply → List ℕ

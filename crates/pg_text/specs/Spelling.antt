@@ -22,13 +22,15 @@ send_line address body = codes "send " ++ (address ++ (codes " body " ++ body))
 abbrev pub count_line : List ℕ → List ℕ
 count_line queue = codes "count " ++ queue
 
+-- the line of a command that is built; the others have none yet
 abbrev pub line_of : Command → List ℕ
 line_of (Address name max page ahead dup) = address_line name max page ahead dup
-line_of (Queue name address) = queue_line name address
-line_of (Send address body) = send_line address body
+line_of (Queue name address filter) = queue_line name address
+line_of (Send address tx id properties body) = send_line address body
 line_of (Count queue) = count_line queue
+line_of _ = []
 
--- the line spells the command
+-- the line spells the command, which is one of those that are built
 pub record Spells (line : List ℕ) (command : Command) : Type 0 where
   pub bytes : line ≡ line_of command
   pub in_range : IsInRange command

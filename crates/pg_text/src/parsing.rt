@@ -9,7 +9,7 @@ mod tests;
 
 use crate::words;
 use pg_bytes::{Octets, Text};
-use pg_msg::Command;
+use pg_msg::{Command, Properties};
 use std::alloc::{AllocError, Global};
 
 // A line has at most so many bytes.
@@ -116,6 +116,7 @@ fn queue(alloc: Global, arguments: &[u8]) -> Result<Option<Command>, AllocError>
     Ok(Some(Command::Queue {
         name: Text::from_str(alloc, name)?,
         address: Text::from_str(alloc, address)?,
+        filter: None,
     }))
 }
 
@@ -134,6 +135,9 @@ fn send(alloc: Global, arguments: &[u8]) -> Result<Option<Command>, AllocError>
     }
     Ok(Some(Command::Send {
         address: Text::from_str(alloc, address)?,
+        tx: None,
+        id: None,
+        properties: Properties::new(alloc),
         body: Octets::from_slice(alloc, body)?,
     }))
 }

@@ -1,5 +1,6 @@
 // Replies as lines.
 ghost use Rattle.std.specs.Prelude.{◌≡◌, IfOk};
+ghost use Rattle.pg_msg.specs.Replies.{IsBuilt, IsBuiltRefusal};
 ghost use Rattle.pg_text.specs.Replies.{reply_line};
 
 use pg_bytes::Octets;
@@ -8,6 +9,7 @@ use std::alloc::{AllocError, Global};
 
 /// The line of a reply, with its line end.
 pub fn render(alloc: Global, reply: Reply) -> Result<Octets, AllocError>
+    requires { IsBuilt reply }
     ensures { IfOk result (λ bytes. bytes ≡ reply_line reply) }
 {
     match reply {
@@ -22,11 +24,14 @@ pub fn render(alloc: Global, reply: Reply) -> Result<Octets, AllocError>
             let line = format!(in alloc; "count {count}\n")?;
             Ok(Octets::from_vec(line.into_bytes()))
         }
+        // No other reply is given yet.
+        _ => Ok(Octets::new(alloc)),
     }
 }
 
 // The line of a refusal, with its line end.
 fn refusal_line(refusal: Refusal) -> &'static [u8]
+    requires { IsBuiltRefusal refusal }
     ensures { result.now ≡ reply_line (Reply.No refusal) }
 {
     match refusal {
@@ -34,6 +39,8 @@ fn refusal_line(refusal: Refusal) -> &'static [u8]
         Refusal::Name => b"no name\n",
         Refusal::Address => b"no address\n",
         Refusal::Queue => b"no queue\n",
+        // No other refusal is given yet.
+        _ => b"",
     }
 }
 

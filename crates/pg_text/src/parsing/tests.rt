@@ -109,6 +109,7 @@ fn reads_queues(rt: HostRuntime) -> Result<(), Fail> {
             Some((name, address)) => Some(Command::Queue {
                 name: Text::from_str(rt.alloc(), name)?,
                 address: Text::from_str(rt.alloc(), address)?,
+                filter: None,
             }),
             None => None,
         };
@@ -141,6 +142,9 @@ fn reads_messages(rt: HostRuntime) -> Result<(), Fail> {
         let command = match parts {
             Some((address, body)) => Some(Command::Send {
                 address: Text::from_str(rt.alloc(), address)?,
+                tx: None,
+                id: None,
+                properties: Properties::new(rt.alloc()),
                 body: Octets::from_slice(rt.alloc(), body)?,
             }),
             None => None,
@@ -154,6 +158,9 @@ fn reads_messages(rt: HostRuntime) -> Result<(), Fail> {
         let command = if readable {
             Some(Command::Send {
                 address: Text::from_str(rt.alloc(), "A")?,
+                tx: None,
+                id: None,
+                properties: Properties::new(rt.alloc()),
                 body: Octets::from_vec(body),
             })
         } else {

@@ -36,14 +36,12 @@ returns-in_ok-hold-clause-sound c = λ sound a row room weight.
           (λ p ne. refl) sound.kept;
     }
 
-none : (c : goal.After-drop-message) → slice_get (values_of c.args.self.now.addresses.entries) c.args.place ≡ None
-none c = sym c.in_default.ensures.value
 
 pub returns-in_default-clause-addresses : goal.returns-in_default-clause-addresses
-returns-in_default-clause-addresses c = rows_past c.args.self.now.addresses.entries c.args.place c.args.message (none c)
+returns-in_default-clause-addresses c = rows_past c.args.self.now.addresses.entries c.args.place c.args.message (sym c.in_default.ensures.value)
 
 pub returns-in_default-clause-queues : goal.returns-in_default-clause-queues
 returns-in_default-clause-queues c = λ sound.
     let es = c.args.self.now.addresses.entries in
-    let past = none_past (values_of es) c.args.place (none c) in
+    let past = none_past (values_of es) c.args.place (sym c.in_default.ensures.value) in
     given_past es c.args.place c.args.message c.args.self.now.queues.entries sound.placed (omega (arith, length_values es))
