@@ -23,7 +23,8 @@ pub struct Engine {
 
 impl Engine {
     /// Executes a command. What it changes is on the disk at Ok. `Spent` comes where no queue number is left, and where the
-    /// journal would grow past its limit.
+    /// journal would grow past its limit; `Failed` where the disk failed; `Memory` for want of memory; `Damaged` never.
+    /// After an Err there is no engine any more.
     pub fn exec<D: Disk>(
         self,
         alloc: Global,

@@ -27,7 +27,7 @@ const JOURNAL: FileId = FileId {
 };
 
 /// Opens a broker over a directory without files. `Damaged` comes where a file is there, and then nothing is changed; `Spent`
-/// where the limits have no epoch left.
+/// where the limits have no epoch left; `Failed` where the disk failed; `Memory` for want of memory.
 pub fn open<D: Disk>(alloc: Global, disk: &mut D, limits: &Limits) -> Result<Engine, Fault>
     ensures opens { IsHonest (D.tells disk.old) → HasNoFile (account (D.tells disk.old)).files → Opens limits.now.ids D.moment D.left_since D.tells disk.old disk.new result }
     ensures back { IsHonest (D.tells disk.new) → IsHonest (D.tells disk.old) }

@@ -36,7 +36,8 @@ struct AddressSettings {
     dup: u32,
 }
 
-/// The command that a line spells, and None where it spells none or is too long.
+/// The command that a line spells, and None where it spells none or is too long. The line comes without its line end;
+/// `docs/FORMATS.md` gives the spellings. Fails only where there is no memory.
 pub fn parse_line(alloc: Global, line: &[u8]) -> Result<Option<Command>, AllocError>
     ensures { IfOk result (λ item. ReadsAs line.now item) }
 {

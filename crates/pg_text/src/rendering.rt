@@ -7,7 +7,7 @@ use pg_bytes::Octets;
 use pg_msg::{Refusal, Reply};
 use std::alloc::{AllocError, Global};
 
-/// The line of a reply, with its line end.
+/// The line of a reply, with its line end, as `docs/FORMATS.md` gives it. Fails only where there is no memory.
 pub fn render(alloc: Global, reply: Reply) -> Result<Octets, AllocError>
     requires { IsBuilt reply }
     ensures { IfOk result (λ bytes. bytes ≡ reply_line reply) }
