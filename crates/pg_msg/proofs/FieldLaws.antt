@@ -44,7 +44,7 @@ pub bind_some : {A B : Type 0} (step : Option A) (f : A → Option B) (y : B) �
 bind_some (Some x) f y e = (x, refl, e)
 bind_some None f y e = absurd cc
 
-abbrev some_of : {A : Type 0} → A → Option A
+abbrev pub some_of : {A : Type 0} → A → Option A
 some_of x = Some x
 
 pub some_is : {A : Type 0} (x y : A) → some_of x ≡ some_of y → x ≡ y

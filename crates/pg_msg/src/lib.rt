@@ -14,7 +14,7 @@ mod reply;
 mod weighing;
 
 pub use command::Command;
-pub use decoding::decode;
+pub use decoding::{decode, prefix_free};
 pub use encoding::encode;
 pub use limits::{LIMITS, Limits};
 pub use message::{Body, Message, MessageId};
