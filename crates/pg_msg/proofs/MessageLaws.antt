@@ -86,7 +86,7 @@ plain_again : (part rest : List ℕ) → length part < 2 ^ 32 → plain_at ((to_
 unfolding plain_at
 plain_again part rest short =
     ap plain_at (append_assoc (to_be_bytes w32 (length part)) part rest)
-        ∙ rw (number_again w32 (2 ^ 32) wide32 (length part) (part ++ rest) short) (octets_again part rest)
+    ∙ rw (number_again w32 (2 ^ 32) wide32 (length part) (part ++ rest) short) (octets_again part rest)
 
 -- the bytes that tell the body
 abbrev part_of : Body → List ℕ

@@ -45,7 +45,7 @@ text_again : (text rest : List ℕ) → IsUtf8 text → length text ≤ 65535 �
 unfolding text_at
 text_again text rest utf8 short =
     ap text_at (append_assoc (to_be_bytes w16 (length text)) text rest)
-        ∙ rw (number_again w16 (2 ^ 16) wide16 (length text) (text ++ rest) (omega (arith, short)), octets_again text rest, is_utf8-from_IsUtf8 text utf8) refl
+    ∙ rw (number_again w16 (2 ^ 16) wide16 (length text) (text ++ rest) (omega (arith, short)), octets_again text rest, is_utf8-from_IsUtf8 text utf8) refl
 
 whole_takes : (bytes : List ℕ) (value : Value) (rest : List ℕ) → IsBytes bytes → whole_at bytes ≡ Some (value, rest) → Takes (2 ∷ bytes) (value_bytes value) rest × IsValue value
 unfolding whole_at
@@ -145,7 +145,7 @@ pub property_again : (property : Property) (rest : List ℕ) → IsProperty prop
 unfolding property_at
 property_again property rest is =
     ap property_at (append_assoc (length property.name ∷ property.name) (value_bytes property.value) rest)
-        ∙ rw (property_name_again property.name (value_bytes property.value ++ rest) is.0, value_again property.value rest is.1) refl
+    ∙ rw (property_name_again property.name (value_bytes property.value ++ rest) is.0, value_again property.value rest is.1) refl
 
 property_field : IsField property_at property_bytes IsProperty
 property_field = record { takes = property_takes; again = property_again }

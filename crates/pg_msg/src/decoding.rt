@@ -10,8 +10,7 @@ use std::alloc::{AllocError, Global};
 /// No message is spelled as the front of another. So what was encoded is decoded as it was, whatever stands behind it.
 pub fn prefix_free()
     ensures { (m n : Message) (x y : List ℕ) → IsMessage m → IsMessage n → message_bytes m ++ x ≡ message_bytes n ++ y → (m ≡ n) × (x ≡ y) }
-{
-}
+{}
 
 /// The message that a prefix of the bytes spells, with the prefix's length in bytes. None where no prefix spells one.
 pub fn decode(alloc: Global, bytes: &[u8]) -> Result<Option<(Message, usize)>, AllocError>
