@@ -2,7 +2,7 @@
 use Rattle.std.proofs.Common.{◌≡◌, ℕ, zero, suc, ◌+◌, ◌^◌, ◌<◌, ◌≤◌, List, [], ◌∷◌, ◌++◌, length, get_or, take, drop, map, Option, Some, None, refl, sym, ap, subst, ◌∙◌, append_assoc, arith, inl, inr}
 use Rattle.std.specs.Prelude.{All}
 use Rattle.std.specs.Int.{Width, w8, w16, w32, w64, byte_len, from_be_bytes, to_be_bytes}
-use Rattle.std.proofs.lemmas.Bool.{cases_lt, leb-true, le-leb, and_parts, and_from}
+use Rattle.std.proofs.lemmas.Bool.{cases_lt, leb-true, le-leb}
 use Rattle.std.proofs.lemmas.Option.{cond_some}
 use Rattle.std.proofs.lemmas.List.Elements.{All-nil, All-cons, All-head, All-tail}
 use Rattle.std.proofs.lemmas.List.{take_at, drop_at, take-append-drop, length-append, length-take, get_or-drop, get_or-take, get_or_past}
@@ -11,7 +11,7 @@ use Rattle.pg_msg.specs.declared.message.MessageId.{MessageId}
 use Rattle.pg_msg.specs.Names.{IsBetween, IsName}
 use Rattle.pg_msg.specs.Lists.{ids_bytes, queues_bytes, AreQueues, rows_bytes, pages_bytes, IsPageRow, ArePages}
 use Rattle.pg_msg.specs.Messages.{id_bytes, IsMessageId}
-use Rattle.pg_msg.specs.Reading.{◌>>=◌, number_at, octets_at, positive_at, id_at, name_at, ids_at, queues_at, rows_at, pages_at}
+use Rattle.pg_msg.specs.Reading.{◌>>=◌, Read, guarded, is_between, counted_at, number_at, octets_at, positive_at, id_at, name_at, ids_at, queues_at, row_at, rows_at, pages_at}
 use Rattle.pg_msg.proofs.TestLaws.{between_decides, name_decides, ascends_decides}
 
 -- each number of the list is a byte
@@ -175,92 +175,135 @@ pub name_again : (name rest : List ℕ) → IsName name → name_at ((length nam
 unfolding name_at
 name_again name rest is = rw (byte_again (length name) (name ++ rest), octets_again name rest, (name_decides name).1 is) refl
 
+-- ---- so many values of one kind
+
+-- what is read is what was spelled, and what was spelled is read
+pub record IsField {X : Type 0} (value_at : List ℕ → Read X) (value_bytes : X → List ℕ) (InRange : X → Type 0) : Type 0 where
+  pub takes : (bytes : List ℕ) (x : X) (rest : List ℕ) → IsBytes bytes → value_at bytes ≡ Some (x, rest) → Takes bytes (value_bytes x) rest × InRange x
+  pub again : (x : X) (rest : List ℕ) → InRange x → value_at (value_bytes x ++ rest) ≡ Some (x, rest)
+
+-- all of them are spelled one behind the other
+pub record IsChain {X : Type 0} (value_bytes : X → List ℕ) (all_bytes : List X → List ℕ) : Type 0 where
+  pub none : all_bytes [] ≡ []
+  pub more : (x : X) (xs : List X) → all_bytes (x ∷ xs) ≡ value_bytes x ++ all_bytes xs
+
+pub counted_takes : {X : Type 0} (value_at : List ℕ → Read X) (value_bytes : X → List ℕ) (InRange : X → Type 0) (all_bytes : List X → List ℕ) → IsField value_at value_bytes InRange → IsChain value_bytes all_bytes → (count : ℕ) (bytes : List ℕ) (xs : List X) (rest : List ℕ) → IsBytes bytes → counted_at value_at count bytes ≡ Some (xs, rest)
+    → Takes bytes (all_bytes xs) rest × (length xs ≡ count) × All InRange xs
+unfolding counted_at
+counted_takes {X} value_at value_bytes InRange all_bytes field chain zero bytes xs rest fits e =
+    let none : List X × List ℕ = ([], bytes) in
+    let taken : Takes bytes (all_bytes []) bytes = record { parts = ap (λ (front : List ℕ). front ++ bytes) (sym chain.none); rest_fits = fits } in
+    subst (λ (x : List X × List ℕ). Takes bytes (all_bytes x.0) x.1 × (length x.0 ≡ 0) × All InRange x.0) (some_is none (xs, rest) e) (taken, refl, All-nil InRange)
+counted_takes {X} value_at value_bytes InRange all_bytes field chain (suc count) bytes xs rest fits e =
+    let a = bind_some (value_at bytes) _ (xs, rest) e in
+    let b = bind_some (counted_at value_at count a.0.1) _ (xs, rest) a.2 in
+    let first = field.takes bytes a.0.0 a.0.1 fits a.1 in
+    let others = counted_takes value_at value_bytes InRange all_bytes field chain count a.0.1 b.0.0 b.0.1 first.0.rest_fits b.1 in
+    let made : List X × List ℕ = (a.0.0 ∷ b.0.0, b.0.1) in
+    let both : Takes bytes (value_bytes a.0.0 ++ all_bytes b.0.0) b.0.1 = Takes-then bytes (value_bytes a.0.0) a.0.1 (all_bytes b.0.0) b.0.1 first.0 others.0 in
+    let whole : Takes bytes (all_bytes (a.0.0 ∷ b.0.0)) b.0.1 = subst (λ (front : List ℕ). Takes bytes front b.0.1) (sym (chain.more a.0.0 b.0.0)) both in
+    subst (λ (x : List X × List ℕ). Takes bytes (all_bytes x.0) x.1 × (length x.0 ≡ suc count) × All InRange x.0) (some_is made (xs, rest) b.2) (whole, ap suc others.1, All-cons InRange a.0.0 b.0.0 first.1 others.2)
+
+pub counted_again : {X : Type 0} (value_at : List ℕ → Read X) (value_bytes : X → List ℕ) (InRange : X → Type 0) (all_bytes : List X → List ℕ) → IsField value_at value_bytes InRange → IsChain value_bytes all_bytes → (xs : List X) (rest : List ℕ) → All InRange xs
+    → counted_at value_at (length xs) (all_bytes xs ++ rest) ≡ Some (xs, rest)
+unfolding counted_at
+counted_again value_at value_bytes InRange all_bytes field chain [] rest each = ap (λ (front : List ℕ). Some ([], front ++ rest)) chain.none
+counted_again value_at value_bytes InRange all_bytes field chain (x ∷ xs) rest each =
+    let regrouped : all_bytes (x ∷ xs) ++ rest ≡ value_bytes x ++ (all_bytes xs ++ rest) = ap (λ (front : List ℕ). front ++ rest) (chain.more x xs) ∙ append_assoc (value_bytes x) (all_bytes xs) rest in
+    let first = field.again x (all_bytes xs ++ rest) (All-head InRange x xs each) in
+    let others = counted_again value_at value_bytes InRange all_bytes field chain xs rest (All-tail InRange x xs each) in
+    rw (regrouped, first, others) refl
+
 -- ---- lists of queues
 
-pub ids_takes : (count : ℕ) (bytes : List ℕ) (ids : List ℕ) (rest : List ℕ) → IsBytes bytes → ids_at count bytes ≡ Some (ids, rest) → Takes bytes (ids_bytes ids) rest × (length ids ≡ count) × All (λ id. id < 2 ^ 32) ids
-unfolding ids_at
-ids_takes zero bytes ids rest fits e =
-    subst (λ (x : List ℕ × List ℕ). Takes bytes (ids_bytes x.0) x.1 × (length x.0 ≡ 0) × All (λ id. id < 2 ^ 32) x.0) (some_is ([], bytes) (ids, rest) e) (record { parts = refl; rest_fits = fits }, refl, All-nil (λ id. id < 2 ^ 32))
-ids_takes (suc count) bytes ids rest fits e =
-    let a = bind_some (number_at w32 bytes) _ (ids, rest) e in
-    let b = bind_some (ids_at count a.0.1) _ (ids, rest) a.2 in
-    let first = number_takes w32 (2 ^ 32) wide32 bytes a.0.0 a.0.1 fits a.1 in
-    let others = ids_takes count a.0.1 b.0.0 b.0.1 first.0.rest_fits b.1 in
-    let made : List ℕ × List ℕ = (a.0.0 ∷ b.0.0, b.0.1) in
-    let both = Takes-then bytes (to_be_bytes w32 a.0.0) a.0.1 (ids_bytes b.0.0) b.0.1 first.0 others.0 in
-    subst (λ (x : List ℕ × List ℕ). Takes bytes (ids_bytes x.0) x.1 × (length x.0 ≡ suc count) × All (λ id. id < 2 ^ 32) x.0) (some_is made (ids, rest) b.2) (both, ap suc others.1, All-cons (λ id. id < 2 ^ 32) a.0.0 b.0.0 first.1 others.2)
+abbrev IsQueue : ℕ → Type 0
+IsQueue id = id < 2 ^ 32
+
+id_field : IsField (number_at w32) (to_be_bytes w32) IsQueue
+id_field = record { takes = number_takes w32 (2 ^ 32) wide32; again = number_again w32 (2 ^ 32) wide32 }
+
+id_chain : IsChain (to_be_bytes w32) ids_bytes
+id_chain = record { none = refl; more = λ _ _. refl }
+
+pub ids_takes : (count : ℕ) (bytes ids rest : List ℕ) → IsBytes bytes → ids_at count bytes ≡ Some (ids, rest) → Takes bytes (ids_bytes ids) rest × (length ids ≡ count) × All (λ id. id < 2 ^ 32) ids
+ids_takes = counted_takes (number_at w32) (to_be_bytes w32) IsQueue ids_bytes id_field id_chain
 
 pub ids_again : (ids rest : List ℕ) → All (λ id. id < 2 ^ 32) ids → ids_at (length ids) (ids_bytes ids ++ rest) ≡ Some (ids, rest)
-unfolding ids_at
-ids_again [] rest each = refl
-ids_again (id ∷ ids) rest each =
-    ap (ids_at (suc (length ids))) (append_assoc (to_be_bytes w32 id) (ids_bytes ids) rest)
-        ∙ rw (number_again w32 (2 ^ 32) wide32 id (ids_bytes ids ++ rest) (All-head (λ n. n < 2 ^ 32) id ids each), ids_again ids rest (All-tail (λ n. n < 2 ^ 32) id ids each)) refl
+ids_again = counted_again (number_at w32) (to_be_bytes w32) IsQueue ids_bytes id_field id_chain
 
 pub queues_takes : (bytes queues rest : List ℕ) → IsBytes bytes → queues_at bytes ≡ Some (queues, rest) → Takes bytes (queues_bytes queues) rest × AreQueues queues
 unfolding queues_at
 queues_takes bytes queues rest fits e =
     let a = bind_some (number_at w16 bytes) _ (queues, rest) e in
-    let b = bind_some (ids_at a.0.0 a.0.1) _ (queues, rest) a.2 in
-    let count = number_takes w16 (2 ^ 16) wide16 bytes a.0.0 a.0.1 fits a.1 in
-    let ids = ids_takes a.0.0 a.0.1 b.0.0 b.0.1 count.0.rest_fits b.1 in
+    let in_range = bind_some (guarded (is_between 1 1000 a.0.0) a.0) _ (queues, rest) a.2 in
+    let few = cond_some _ _ _ in_range.1 in
+    let same : in_range.0 ≡ a.0 = sym few.1 in
+    let b = bind_some (ids_at in_range.0.0 in_range.0.1) _ (queues, rest) in_range.2 in
     let passed = cond_some _ _ _ b.2 in
-    let tests = and_parts _ _ passed.0 in
+    let count = number_takes w16 (2 ^ 16) wide16 bytes a.0.0 a.0.1 fits a.1 in
+    let read : ids_at a.0.0 a.0.1 ≡ Some (b.0.0, b.0.1) = subst (λ (x : ℕ × List ℕ). ids_at x.0 x.1 ≡ Some (b.0.0, b.0.1)) same b.1 in
+    let ids = ids_takes a.0.0 a.0.1 b.0.0 b.0.1 count.0.rest_fits read in
     let both = Takes-then bytes (to_be_bytes w16 a.0.0) a.0.1 (ids_bytes b.0.0) b.0.1 count.0 ids.0 in
     let whole : Takes bytes (queues_bytes b.0.0) b.0.1 = subst (λ (n : ℕ). Takes bytes (to_be_bytes w16 n ++ ids_bytes b.0.0) b.0.1) (sym ids.1) both in
-    let in_range : IsBetween 1 1000 (length b.0.0) = rw ids.1 ((between_decides 1 1000 a.0.0).0 tests.0) in
-    subst (λ (x : List ℕ × List ℕ). Takes bytes (queues_bytes x.0) x.1 × AreQueues x.0) passed.1 (whole, record { count = in_range; each = ids.2; ascending = (ascends_decides b.0.0).0 tests.1 })
+    let between : IsBetween 1 1000 (length b.0.0) = rw ids.1 ((between_decides 1 1000 a.0.0).0 few.0) in
+    subst (λ (x : List ℕ × List ℕ). Takes bytes (queues_bytes x.0) x.1 × AreQueues x.0) passed.1 (whole, record { count = between; each = ids.2; ascending = (ascends_decides b.0.0).0 passed.0 })
 
 pub queues_again : (queues rest : List ℕ) → AreQueues queues → queues_at (queues_bytes queues ++ rest) ≡ Some (queues, rest)
 unfolding queues_at
 queues_again queues rest are =
+    let between = (between_decides 1 1000 (length queues)).1 are.count in
     ap queues_at (append_assoc (to_be_bytes w16 (length queues)) (ids_bytes queues) rest)
-        ∙ rw (number_again w16 (2 ^ 16) wide16 (length queues) (ids_bytes queues ++ rest) (omega (arith, are.count.1)), ids_again queues rest are.each, and_from _ _ ((between_decides 1 1000 (length queues)).1 are.count) ((ascends_decides queues).1 are.ascending)) refl
+        ∙ rw (number_again w16 (2 ^ 16) wide16 (length queues) (ids_bytes queues ++ rest) (omega (arith, are.count.1)), between, ids_again queues rest are.each, (ascends_decides queues).1 are.ascending) refl
 
 -- ---- lists of pages
 
-pub rows_takes : (count : ℕ) (bytes : List ℕ) (rows : List (ℕ × ℕ)) (rest : List ℕ) → IsBytes bytes → rows_at count bytes ≡ Some (rows, rest) → Takes bytes (rows_bytes rows) rest × (length rows ≡ count) × All IsPageRow rows
-unfolding rows_at
-rows_takes zero bytes rows rest fits e =
-    subst (λ (x : List (ℕ × ℕ) × List ℕ). Takes bytes (rows_bytes x.0) x.1 × (length x.0 ≡ 0) × All IsPageRow x.0) (some_is ([], bytes) (rows, rest) e) (record { parts = refl; rest_fits = fits }, refl, All-nil IsPageRow)
-rows_takes (suc count) bytes rows rest fits e =
-    let a = bind_some (number_at w32 bytes) _ (rows, rest) e in
-    let b = bind_some (positive_at w64 a.0.1) _ (rows, rest) a.2 in
-    let d = bind_some (rows_at count b.0.1) _ (rows, rest) b.2 in
+abbrev row_bytes : ℕ × ℕ → List ℕ
+row_bytes row = to_be_bytes w32 row.0 ++ to_be_bytes w64 row.1
+
+row_takes : (bytes : List ℕ) (row : ℕ × ℕ) (rest : List ℕ) → IsBytes bytes → row_at bytes ≡ Some (row, rest) → Takes bytes (row_bytes row) rest × IsPageRow row
+unfolding row_at
+row_takes bytes row rest fits e =
+    let a = bind_some (number_at w32 bytes) _ (row, rest) e in
+    let b = bind_some (positive_at w64 a.0.1) _ (row, rest) a.2 in
     let address = number_takes w32 (2 ^ 32) wide32 bytes a.0.0 a.0.1 fits a.1 in
     let page = positive_takes w64 (2 ^ 64) wide64 a.0.1 b.0.0 b.0.1 address.0.rest_fits b.1 in
-    let others = rows_takes count b.0.1 d.0.0 d.0.1 page.0.rest_fits d.1 in
-    let row : ℕ × ℕ = (a.0.0, b.0.0) in
-    let made : List (ℕ × ℕ) × List ℕ = (row ∷ d.0.0, d.0.1) in
-    let behind = Takes-then a.0.1 (to_be_bytes w64 b.0.0) b.0.1 (rows_bytes d.0.0) d.0.1 page.0 others.0 in
-    let all = Takes-then bytes (to_be_bytes w32 a.0.0) a.0.1 (to_be_bytes w64 b.0.0 ++ rows_bytes d.0.0) d.0.1 address.0 behind in
-    subst (λ (x : List (ℕ × ℕ) × List ℕ). Takes bytes (rows_bytes x.0) x.1 × (length x.0 ≡ suc count) × All IsPageRow x.0) (some_is made (rows, rest) d.2) (all, ap suc others.1, All-cons IsPageRow row d.0.0 (address.1, page.1, page.2) others.2)
+    let made : (ℕ × ℕ) × List ℕ = ((a.0.0, b.0.0), b.0.1) in
+    let both = Takes-then bytes (to_be_bytes w32 a.0.0) a.0.1 (to_be_bytes w64 b.0.0) b.0.1 address.0 page.0 in
+    subst (λ (x : (ℕ × ℕ) × List ℕ). Takes bytes (row_bytes x.0) x.1 × IsPageRow x.0) (some_is made (row, rest) b.2) (both, (address.1, page.1, page.2))
+
+row_again : (row : ℕ × ℕ) (rest : List ℕ) → IsPageRow row → row_at (row_bytes row ++ rest) ≡ Some (row, rest)
+unfolding row_at
+row_again row rest is =
+    ap row_at (append_assoc (to_be_bytes w32 row.0) (to_be_bytes w64 row.1) rest)
+        ∙ rw (number_again w32 (2 ^ 32) wide32 row.0 (to_be_bytes w64 row.1 ++ rest) is.0, positive_again w64 (2 ^ 64) wide64 row.1 rest is.1 is.2) refl
+
+row_field : IsField row_at row_bytes IsPageRow
+row_field = record { takes = row_takes; again = row_again }
+
+row_chain : IsChain row_bytes rows_bytes
+row_chain = record { none = refl; more = λ row rows. sym (append_assoc (to_be_bytes w32 row.0) (to_be_bytes w64 row.1) (rows_bytes rows)) }
+
+pub rows_takes : (count : ℕ) (bytes : List ℕ) (rows : List (ℕ × ℕ)) (rest : List ℕ) → IsBytes bytes → rows_at count bytes ≡ Some (rows, rest) → Takes bytes (rows_bytes rows) rest × (length rows ≡ count) × All IsPageRow rows
+rows_takes = counted_takes row_at row_bytes IsPageRow rows_bytes row_field row_chain
 
 pub rows_again : (rows : List (ℕ × ℕ)) (rest : List ℕ) → All IsPageRow rows → rows_at (length rows) (rows_bytes rows ++ rest) ≡ Some (rows, rest)
-unfolding rows_at
-rows_again [] rest each = refl
-rows_again (row ∷ rows) rest each =
-    let is = All-head IsPageRow row rows each in
-    let regrouped : rows_bytes (row ∷ rows) ++ rest ≡ to_be_bytes w32 row.0 ++ (to_be_bytes w64 row.1 ++ (rows_bytes rows ++ rest)) = append_assoc (to_be_bytes w32 row.0) (to_be_bytes w64 row.1 ++ rows_bytes rows) rest ∙ ap (λ (t : List ℕ). to_be_bytes w32 row.0 ++ t) (append_assoc (to_be_bytes w64 row.1) (rows_bytes rows) rest) in
-    ap (rows_at (suc (length rows))) regrouped
-        ∙ rw (number_again w32 (2 ^ 32) wide32 row.0 (to_be_bytes w64 row.1 ++ (rows_bytes rows ++ rest)) is.0, positive_again w64 (2 ^ 64) wide64 row.1 (rows_bytes rows ++ rest) is.1 is.2, rows_again rows rest (All-tail IsPageRow row rows each)) refl
+rows_again = counted_again row_at row_bytes IsPageRow rows_bytes row_field row_chain
 
 pub pages_takes : (bytes : List ℕ) (rows : List (ℕ × ℕ)) (rest : List ℕ) → IsBytes bytes → pages_at bytes ≡ Some (rows, rest) → Takes bytes (pages_bytes rows) rest × ArePages rows
 unfolding pages_at
 pages_takes bytes rows rest fits e =
-    let a = bind_some (number_at w16 bytes) _ (rows, rest) e in
+    let a = bind_some (positive_at w16 bytes) _ (rows, rest) e in
     let b = bind_some (rows_at a.0.0 a.0.1) _ (rows, rest) a.2 in
-    let count = number_takes w16 (2 ^ 16) wide16 bytes a.0.0 a.0.1 fits a.1 in
+    let count = positive_takes w16 (2 ^ 16) wide16 bytes a.0.0 a.0.1 fits a.1 in
     let read = rows_takes a.0.0 a.0.1 b.0.0 b.0.1 count.0.rest_fits b.1 in
-    let passed = cond_some _ _ _ b.2 in
-    let tests = and_parts _ _ passed.0 in
     let both = Takes-then bytes (to_be_bytes w16 a.0.0) a.0.1 (rows_bytes b.0.0) b.0.1 count.0 read.0 in
     let whole : Takes bytes (pages_bytes b.0.0) b.0.1 = subst (λ (n : ℕ). Takes bytes (to_be_bytes w16 n ++ rows_bytes b.0.0) b.0.1) (sym read.1) both in
-    let in_range : IsBetween 1 65535 (length b.0.0) = rw read.1 (leb-true 1 a.0.0 tests.0, omega (arith, count.1)) in
-    subst (λ (x : List (ℕ × ℕ) × List ℕ). Takes bytes (pages_bytes x.0) x.1 × ArePages x.0) passed.1 (whole, record { count = in_range; each = read.2; ascending = (ascends_decides (map (λ row. row.0) b.0.0)).0 tests.1 })
+    let between : IsBetween 1 65535 (length b.0.0) = rw read.1 (count.1, omega (arith, count.2)) in
+    let passed = cond_some _ _ _ b.2 in
+    subst (λ (x : List (ℕ × ℕ) × List ℕ). Takes bytes (pages_bytes x.0) x.1 × ArePages x.0) passed.1 (whole, record { count = between; each = read.2; ascending = (ascends_decides (map (λ row. row.0) b.0.0)).0 passed.0 })
 
 pub pages_again : (rows : List (ℕ × ℕ)) (rest : List ℕ) → ArePages rows → pages_at (pages_bytes rows ++ rest) ≡ Some (rows, rest)
 unfolding pages_at
 pages_again rows rest are =
     ap pages_at (append_assoc (to_be_bytes w16 (length rows)) (rows_bytes rows) rest)
-        ∙ rw (number_again w16 (2 ^ 16) wide16 (length rows) (rows_bytes rows ++ rest) (omega (arith, are.count.1)), rows_again rows rest are.each, and_from _ _ (le-leb 1 (length rows) are.count.0) ((ascends_decides (map (λ row. row.0) rows)).1 are.ascending)) refl
+        ∙ rw (positive_again w16 (2 ^ 16) wide16 (length rows) (rows_bytes rows ++ rest) are.count.0 (omega (arith, are.count.1)), rows_again rows rest are.each, (ascends_decides (map (λ row. row.0) rows)).1 are.ascending) refl

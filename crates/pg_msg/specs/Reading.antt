@@ -36,6 +36,14 @@ Gives view (Err error) read = Misses error read
 abbrev pub guarded : {X : Type 0} → Bool → X → Option X
 guarded test x = if test then Some x else None
 
+-- so many values, one behind the other
+unfoldable pub counted_at : {X : Type 0} → (List ℕ → Read X) → ℕ → List ℕ → Read (List X)
+counted_at value_at zero bytes = Some ([], bytes)
+counted_at value_at (suc count) bytes = do
+  first ← value_at bytes
+  others ← counted_at value_at count first.1
+  Some (first.0 ∷ others.0, others.1)
+
 -- a number of this width
 abbrev pub number_at : Width → List ℕ → Read ℕ
 number_at w bytes = guarded (nat_le (byte_len w) (length bytes)) (from_be_bytes w (take (byte_len w) bytes), drop (byte_len w) bytes)
@@ -88,12 +96,8 @@ name_at bytes = do
   guarded (is_name name.0) name
 
 -- so many ids
-unfoldable pub ids_at : ℕ → List ℕ → Read (List ℕ)
-ids_at zero bytes = Some ([], bytes)
-ids_at (suc count) bytes = do
-  id ← number_at w32 bytes
-  ids ← ids_at count id.1
-  Some (id.0 ∷ ids.0, ids.1)
+abbrev pub ids_at : ℕ → List ℕ → Read (List ℕ)
+ids_at count bytes = counted_at (number_at w32) count bytes
 
 abbrev pub is_below_first : ℕ → List ℕ → Bool
 is_below_first id [] = true
@@ -107,29 +111,33 @@ ascends (id ∷ ids) = is_below_first id ids && ascends ids
 unfoldable pub queues_at : List ℕ → Read (List ℕ)
 queues_at bytes = do
   count ← number_at w16 bytes
-  ids ← ids_at count.0 count.1
-  guarded (is_between 1 1000 count.0 && ascends ids.0) ids
+  in_range ← guarded (is_between 1 1000 count.0) count
+  ids ← ids_at in_range.0 in_range.1
+  guarded (ascends ids.0) ids
 
-unfoldable pub rows_at : ℕ → List ℕ → Read (List (ℕ × ℕ))
-rows_at zero bytes = Some ([], bytes)
-rows_at (suc count) bytes = do
+-- an address and its last page
+unfoldable pub row_at : List ℕ → Read (ℕ × ℕ)
+row_at bytes = do
   address ← number_at w32 bytes
   page ← positive_at w64 address.1
-  rows ← rows_at count page.1
-  Some ((address.0, page.0) ∷ rows.0, rows.1)
+  Some ((address.0, page.0), page.1)
+
+abbrev pub rows_at : ℕ → List ℕ → Read (List (ℕ × ℕ))
+rows_at count bytes = counted_at row_at count bytes
 
 -- a count and so many addresses, which ascend, with their last pages
 unfoldable pub pages_at : List ℕ → Read (List (ℕ × ℕ))
 pages_at bytes = do
-  count ← number_at w16 bytes
+  count ← positive_at w16 bytes
   rows ← rows_at count.0 count.1
-  guarded (nat_le 1 count.0 && ascends (map (λ row. row.0) rows.0)) rows
+  guarded (ascends (map (λ row. row.0) rows.0)) rows
 
 unfoldable pub dup_at : List ℕ → Read (Option (List ℕ))
 dup_at bytes = do
   count ← number_at w8 bytes
-  id ← octets_at count.0 count.1
-  guarded (nat_le count.0 64) (if count.0 == 0 then None else Some id.0, id.1)
+  in_range ← guarded (nat_le count.0 64) count
+  id ← octets_at in_range.0 in_range.1
+  Some (if count.0 == 0 then None else Some id.0, id.1)
 
 unfoldable pub text_at : List ℕ → Read Value
 text_at bytes = do
@@ -156,21 +164,18 @@ value_at bytes = do
   kind ← number_at w8 bytes
   value_of kind.0 kind.1
 
-unfoldable pub property_at : List ℕ → Read Property
-property_at bytes = do
+-- a length byte and so many bytes, which name a property
+unfoldable pub property_name_at : List ℕ → Read (List ℕ)
+property_name_at bytes = do
   count ← number_at w8 bytes
   name ← octets_at count.0 count.1
-  named ← guarded (is_property_name name.0) name
-  value ← value_at named.1
-  Some (record { name = named.0; value = value.0 }, value.1)
+  guarded (is_property_name name.0) name
 
--- so many properties
-unfoldable pub some_properties_at : ℕ → List ℕ → Read (List Property)
-some_properties_at zero bytes = Some ([], bytes)
-some_properties_at (suc count) bytes = do
-  property ← property_at bytes
-  properties ← some_properties_at count property.1
-  Some (property.0 ∷ properties.0, properties.1)
+unfoldable pub property_at : List ℕ → Read Property
+property_at bytes = do
+  name ← property_name_at bytes
+  value ← value_at name.1
+  Some (record { name = name.0; value = value.0 }, value.1)
 
 -- the names differ
 abbrev pub are_distinct : List (List ℕ) → Bool
@@ -181,23 +186,22 @@ are_distinct (name ∷ names) = not (list_any (bytes_eq name) names) && are_dist
 unfoldable pub properties_at : List ℕ → Read (List Property)
 properties_at bytes = do
   count ← number_at w8 bytes
-  properties ← some_properties_at count.0 count.1
-  guarded (nat_le count.0 100 && are_distinct (map (λ property. property.name) properties.0)) properties
+  in_range ← guarded (nat_le count.0 100) count
+  properties ← counted_at property_at in_range.0 in_range.1
+  guarded (are_distinct (map (λ property. property.name) properties.0)) properties
 
-unfoldable pub plain_at : List ℕ → Read Body
+-- so many bytes behind their count
+unfoldable pub plain_at : List ℕ → Read (List ℕ)
 plain_at bytes = do
   count ← number_at w32 bytes
-  body ← octets_at count.0 count.1
-  Some (Plain body.0, body.1)
+  octets_at count.0 count.1
 
-unfoldable pub large_at : List ℕ → Read Body
-large_at bytes = do
-  size ← number_at w64 bytes
-  Some (Large size.0, size.1)
+-- the bytes that tell the body of this kind: those of a plain one, and the length of a large one
+abbrev pub part_at : ℕ → List ℕ → Read (List ℕ)
+part_at kind bytes = if kind == 1 then plain_at bytes else (if kind == 2 then octets_at 8 bytes else None)
 
--- the body of this kind
-abbrev pub body_of : ℕ → List ℕ → Read Body
-body_of kind bytes = if kind == 1 then plain_at bytes else (if kind == 2 then large_at bytes else None)
+abbrev pub body_of : ℕ → List ℕ → Body
+body_of kind part = if kind == 1 then Plain part else Large (from_be_bytes w64 part)
 
 -- the message, if it isn't too heavy
 unfoldable pub message_at : List ℕ → Read Message
@@ -206,5 +210,5 @@ message_at bytes = do
   kind ← number_at w8 id.1
   dup ← dup_at kind.1
   properties ← properties_at dup.1
-  body ← body_of kind.0 properties.1
-  guarded (nat_le (length bytes) (length body.1 + 102399)) (record { id = id.0; dup = dup.0; properties = properties.0; body = body.0 }, body.1)
+  part ← part_at kind.0 properties.1
+  guarded (nat_le (length bytes) (length part.1 + 102399)) (record { id = id.0; dup = dup.0; properties = properties.0; body = body_of kind.0 part.0 }, part.1)
