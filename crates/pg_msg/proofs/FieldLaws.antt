@@ -216,13 +216,13 @@ counted_again value_at value_bytes InRange all_bytes field chain (x ∷ xs) rest
 
 -- ---- lists of queues
 
-abbrev IsQueue : ℕ → Type 0
+abbrev pub IsQueue : ℕ → Type 0
 IsQueue id = id < 2 ^ 32
 
-id_field : IsField (number_at w32) (to_be_bytes w32) IsQueue
+pub id_field : IsField (number_at w32) (to_be_bytes w32) IsQueue
 id_field = record { takes = number_takes w32 (2 ^ 32) wide32; again = number_again w32 (2 ^ 32) wide32 }
 
-id_chain : IsChain (to_be_bytes w32) ids_bytes
+pub id_chain : IsChain (to_be_bytes w32) ids_bytes
 id_chain = record { none = refl; more = λ _ _. refl }
 
 pub ids_takes : (count : ℕ) (bytes ids rest : List ℕ) → IsBytes bytes → ids_at count bytes ≡ Some (ids, rest) → Takes bytes (ids_bytes ids) rest × (length ids ≡ count) × All (λ id. id < 2 ^ 32) ids
@@ -257,7 +257,7 @@ queues_again queues rest are =
 
 -- ---- lists of pages
 
-abbrev row_bytes : ℕ × ℕ → List ℕ
+abbrev pub row_bytes : ℕ × ℕ → List ℕ
 row_bytes row = to_be_bytes w32 row.0 ++ to_be_bytes w64 row.1
 
 row_takes : (bytes : List ℕ) (row : ℕ × ℕ) (rest : List ℕ) → IsBytes bytes → row_at bytes ≡ Some (row, rest) → Takes bytes (row_bytes row) rest × IsPageRow row
@@ -277,10 +277,10 @@ row_again row rest is =
     ap row_at (append_assoc (to_be_bytes w32 row.0) (to_be_bytes w64 row.1) rest)
         ∙ rw (number_again w32 (2 ^ 32) wide32 row.0 (to_be_bytes w64 row.1 ++ rest) is.0, positive_again w64 (2 ^ 64) wide64 row.1 rest is.1 is.2) refl
 
-row_field : IsField row_at row_bytes IsPageRow
+pub row_field : IsField row_at row_bytes IsPageRow
 row_field = record { takes = row_takes; again = row_again }
 
-row_chain : IsChain row_bytes rows_bytes
+pub row_chain : IsChain row_bytes rows_bytes
 row_chain = record { none = refl; more = λ row rows. sym (append_assoc (to_be_bytes w32 row.0) (to_be_bytes w64 row.1) (rows_bytes rows)) }
 
 pub rows_takes : (count : ℕ) (bytes : List ℕ) (rows : List (ℕ × ℕ)) (rest : List ℕ) → IsBytes bytes → rows_at count bytes ≡ Some (rows, rest) → Takes bytes (rows_bytes rows) rest × (length rows ≡ count) × All IsPageRow rows

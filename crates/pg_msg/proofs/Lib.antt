@@ -1,2 +1,3 @@
+pub mod CountedLoop
 pub mod FieldLaws
 pub mod TestLaws

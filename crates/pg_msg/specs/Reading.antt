@@ -85,7 +85,7 @@ is_property_name_byte byte = is_property_name_start byte || is_between 48 57 byt
 abbrev pub is_reserved : List ℕ → Bool
 is_reserved name = list_any (bytes_eq (str_to_ascii_lowercase name)) reserved_words
 
-abbrev pub is_property_name : List ℕ → Bool
+unfoldable pub is_property_name : List ℕ → Bool
 is_property_name name = is_between 1 64 (length name) && (is_property_name_start (slice_index name 0) && (list_all is_property_name_byte name && not (is_reserved name)))
 
 -- a length byte and so many bytes, which are a name

@@ -1,5 +1,5 @@
 // The weight of a message.
-ghost use Rattle.std.specs.Prelude.{◌≡◌, ◌<◌, ◌≤◌, ◌*◌, ◌^◌, length, All, IfSome};
+ghost use Rattle.std.specs.Prelude.{◌≡◌, ◌+◌, ◌*◌, ◌<◌, ◌≤◌, ◌^◌, length, All, IfSome};
 ghost use Rattle.pg_msg.specs.Messages.{HasFields, IsBody, IsDuplicateId, IsProperty, IsValue, body_bytes, dup_bytes, property_bytes, properties_bytes, value_bytes, weight_of};
 
 use crate::message::{Body, Message};

@@ -1,7 +1,9 @@
 // Names, and the names of properties.
-ghost use Rattle.std.specs.Prelude.{◌≡◌, ◌<◌, ◌^◌, ◌++◌, ◌∷◌, length, OnOk};
-ghost use Rattle.std.specs.Str.{is_utf8};
-ghost use Rattle.pg_msg.specs.Reading.{Gives, guarded, is_name_start, is_name_byte, is_name, is_property_name_start, is_property_name_byte, is_reserved, is_property_name, name_at, property_name_at};
+ghost use Rattle.std.specs.Prelude.{◌≡◌, ◌<◌, ◌≤◌, ◌^◌, ◌++◌, ◌∷◌, ◌↔◌, length, slice_index, IsTrue, OnOk};
+ghost use Rattle.std.specs.List.{list_any};
+ghost use Rattle.std.specs.Str.{is_utf8, str_eq_ignore_ascii_case};
+ghost use Rattle.pg_msg.specs.Names.{IsBetween, IsName, IsNameStart, IsNameByte, IsPropertyName, IsPropertyNameStart, IsPropertyNameByte, IsReserved};
+ghost use Rattle.pg_msg.specs.Reading.{Gives, guarded, is_name, is_property_name, name_at, property_name_at};
 
 use crate::fields::Unread;
 use crate::fields::numbers::{read_bytes, read_u8};
@@ -77,61 +79,73 @@ fn property_name_of(alloc: Global, name: &[u8]) -> Result<Text, Unread>
 }
 
 fn is_name(name: &[u8]) -> bool
-    ensures { result ≡ is_name name.now }
+    ensures { IsTrue result ↔ IsName name.now }
 {
     match name.first() {
-        Some(first) => {
-            name.len() <= LONGEST_NAME
-                && is_name_start(*first)
-                && name.iter().all(|byte| is_name_byte(*byte))
-        }
+        Some(first) => name.len() <= LONGEST_NAME
+            && is_name_start(*first)
+            && name.iter().all(|byte| is_name_byte(*byte)),
         None => false,
     }
 }
 
 fn is_name_start(byte: u8) -> bool
-    ensures { result ≡ is_name_start byte }
+    ensures { IsTrue result ↔ IsNameStart byte }
 {
     byte.is_ascii_alphabetic() || byte == b'_'
 }
 
 fn is_name_byte(byte: u8) -> bool
-    ensures { result ≡ is_name_byte byte }
+    ensures { IsTrue result ↔ IsNameByte byte }
 {
     is_name_start(byte) || byte.is_ascii_digit() || byte == b'.' || byte == b'-'
 }
 
 fn is_property_name(name: &[u8]) -> bool
-    ensures { result ≡ is_property_name name.now }
+    ensures { IsTrue result ↔ IsPropertyName name.now }
+{
+    begins_property_name(name)
+        && name.iter().all(|byte| is_property_name_byte(*byte))
+        && !is_reserved(name)
+}
+
+// It has a length and a first byte that the name of a property may have.
+fn begins_property_name(name: &[u8]) -> bool
+    ensures { IsTrue result ↔ (IsBetween 1 64 (length name.now) × IsPropertyNameStart (slice_index name.now 0)) }
 {
     match name.first() {
-        Some(first) => {
-            name.len() <= LONGEST_NAME
-                && is_property_name_start(*first)
-                && name.iter().all(|byte| is_property_name_byte(*byte))
-                && !is_reserved(name)
-        }
+        Some(first) => name.len() <= LONGEST_NAME && is_property_name_start(*first),
         None => false,
     }
 }
 
 fn is_property_name_start(byte: u8) -> bool
-    ensures { result ≡ is_property_name_start byte }
+    ensures { IsTrue result ↔ IsPropertyNameStart byte }
 {
     is_name_start(byte) || byte == b'$'
 }
 
 fn is_property_name_byte(byte: u8) -> bool
-    ensures { result ≡ is_property_name_byte byte }
+    ensures { IsTrue result ↔ IsPropertyNameByte byte }
 {
     is_property_name_start(byte) || byte.is_ascii_digit()
 }
 
 // One of the reserved words, in any case of its letters.
 fn is_reserved(name: &[u8]) -> bool
-    ensures { result ≡ is_reserved name.now }
+    ensures { IsTrue result ↔ IsReserved name.now }
 {
-    RESERVED
-        .iter()
-        .any(|word| name.eq_ignore_ascii_case(word.as_bytes()))
+    is_one_of(name, &RESERVED)
+}
+
+fn is_one_of(name: &[u8], words: &[&str]) -> bool
+    ensures { result ≡ list_any (λ word. str_eq_ignore_ascii_case name.now word.now) words.now }
+{
+    words.iter().any(|word| is_word(name, word))
+}
+
+fn is_word(name: &[u8], word: &str) -> bool
+    ensures { result ≡ str_eq_ignore_ascii_case name.now word.now }
+{
+    name.eq_ignore_ascii_case(word.as_bytes())
 }

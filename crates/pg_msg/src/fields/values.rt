@@ -64,7 +64,7 @@ fn names_differ(properties: &[Property]) -> bool
     ensures { result ≡ are_distinct (map (λ property. property.name) properties.now) }
 {
     let mut rest = properties;
-    while let [first, behind @ ..] = rest {
+    while let Some((first, behind)) = rest.split_first() {
         if has_name(behind, &first.name) {
             return false;
         }
@@ -74,7 +74,7 @@ fn names_differ(properties: &[Property]) -> bool
 }
 
 fn has_name(properties: &[Property], name: &Text) -> bool
-    ensures { result ≡ list_any (bytes_eq name.now) (map (λ property. property.name) properties.now) }
+    ensures { result ≡ list_any (λ property. bytes_eq name.now property.name) properties.now }
 {
     properties.iter().any(|other| *name == other.name)
 }
