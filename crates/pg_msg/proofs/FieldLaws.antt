@@ -44,7 +44,7 @@ pub bind_some : {A B : Type 0} (step : Option A) (f : A → Option B) (y : B) �
 bind_some (Some x) f y e = (x, refl, e)
 bind_some None f y e = absurd cc
 
-abbrev some_of : {A : Type 0} → A → Option A
+abbrev pub some_of : {A : Type 0} → A → Option A
 some_of x = Some x
 
 pub some_is : {A : Type 0} (x y : A) → some_of x ≡ some_of y → x ≡ y
@@ -155,7 +155,7 @@ pub id_again : (id : MessageId) (rest : List ℕ) → IsMessageId id → id_at (
 unfolding id_at
 id_again id rest is =
     ap id_at (append_assoc (to_be_bytes w32 id.epoch) (to_be_bytes w32 id.number) rest)
-        ∙ rw (positive_again w32 (2 ^ 32) wide32 id.epoch (to_be_bytes w32 id.number ++ rest) is.epoch is.epoch_fits, positive_again w32 (2 ^ 32) wide32 id.number rest is.number is.number_fits) refl
+    ∙ rw (positive_again w32 (2 ^ 32) wide32 id.epoch (to_be_bytes w32 id.number ++ rest) is.epoch is.epoch_fits, positive_again w32 (2 ^ 32) wide32 id.number rest is.number is.number_fits) refl
 
 -- ---- names
 
@@ -253,7 +253,7 @@ unfolding queues_at
 queues_again queues rest are =
     let between = (between_decides 1 1000 (length queues)).1 are.count in
     ap queues_at (append_assoc (to_be_bytes w16 (length queues)) (ids_bytes queues) rest)
-        ∙ rw (number_again w16 (2 ^ 16) wide16 (length queues) (ids_bytes queues ++ rest) (omega (arith, are.count.1)), between, ids_again queues rest are.each, (ascends_decides queues).1 are.ascending) refl
+    ∙ rw (number_again w16 (2 ^ 16) wide16 (length queues) (ids_bytes queues ++ rest) (omega (arith, are.count.1)), between, ids_again queues rest are.each, (ascends_decides queues).1 are.ascending) refl
 
 -- ---- lists of pages
 
@@ -275,7 +275,7 @@ row_again : (row : ℕ × ℕ) (rest : List ℕ) → IsPageRow row → row_at (r
 unfolding row_at
 row_again row rest is =
     ap row_at (append_assoc (to_be_bytes w32 row.0) (to_be_bytes w64 row.1) rest)
-        ∙ rw (number_again w32 (2 ^ 32) wide32 row.0 (to_be_bytes w64 row.1 ++ rest) is.0, positive_again w64 (2 ^ 64) wide64 row.1 rest is.1 is.2) refl
+    ∙ rw (number_again w32 (2 ^ 32) wide32 row.0 (to_be_bytes w64 row.1 ++ rest) is.0, positive_again w64 (2 ^ 64) wide64 row.1 rest is.1 is.2) refl
 
 pub row_field : IsField row_at row_bytes IsPageRow
 row_field = record { takes = row_takes; again = row_again }
@@ -306,4 +306,4 @@ pub pages_again : (rows : List (ℕ × ℕ)) (rest : List ℕ) → ArePages rows
 unfolding pages_at
 pages_again rows rest are =
     ap pages_at (append_assoc (to_be_bytes w16 (length rows)) (rows_bytes rows) rest)
-        ∙ rw (positive_again w16 (2 ^ 16) wide16 (length rows) (rows_bytes rows ++ rest) are.count.0 (omega (arith, are.count.1)), rows_again rows rest are.each, (ascends_decides (map (λ row. row.0) rows)).1 are.ascending) refl
+    ∙ rw (positive_again w16 (2 ^ 16) wide16 (length rows) (rows_bytes rows ++ rest) are.count.0 (omega (arith, are.count.1)), rows_again rows rest are.each, (ascends_decides (map (λ row. row.0) rows)).1 are.ascending) refl

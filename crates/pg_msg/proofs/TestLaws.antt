@@ -90,8 +90,8 @@ ascends_everywhere key [] each = refl
 ascends_everywhere key (x ∷ []) each = refl
 ascends_everywhere {X} key (x ∷ y ∷ ys) each =
     let behind : AllAdjacentBelow (λ (a b : X). true ≡ ltb (key a) (key b)) (y ∷ ys) (length (y ∷ ys)) = λ k d below.
-        let next : suc k + 1 ≡ suc (k + 1) = omega arith in
-        subst (λ (n : ℕ). true ≡ ltb (key (get_or (x ∷ y ∷ ys) (suc k) d)) (key (get_or (x ∷ y ∷ ys) n d))) next (each (suc k) d (omega arith)) in
+    let next : suc k + 1 ≡ suc (k + 1) = omega arith in
+    subst (λ (n : ℕ). true ≡ ltb (key (get_or (x ∷ y ∷ ys) (suc k) d)) (key (get_or (x ∷ y ∷ ys) n d))) next (each (suc k) d (omega arith)) in
     and_from _ _ (sym (each 0 x (omega arith))) (ascends_everywhere key (y ∷ ys) behind)
 
 ascends_nowhere : {X : Type 0} (key : X → ℕ) (xs : List X) (k : ℕ) (d : X) → k + 1 < length xs → false ≡ ltb (key (get_or xs k d)) (key (get_or xs (k + 1) d)) → ascends (map key xs) ≡ false

@@ -1,11 +1,16 @@
 // The message that bytes spell.
-ghost use Rattle.std.specs.Prelude.{◌≡◌, ◌++◌, ◌≤◌, ℕ, List, Option, Some, None, length, take, IfOk, MatchOption, OnOk};
+ghost use Rattle.std.specs.Prelude.{◌≡◌, ◌++◌, ◌≤◌, ℕ, List, Some, length, take, IfOk, MatchOption};
 ghost use Rattle.pg_msg.specs.Messages.{IsMessage, message_bytes, SpellsMessage};
 ghost use Rattle.pg_msg.specs.declared.message.Message.{Message};
 
 use crate::fields::{Unread, read_message};
 use crate::message::Message;
 use std::alloc::{AllocError, Global};
+
+/// No message is spelled as the front of another. So what was encoded is decoded as it was, whatever stands behind it.
+pub fn prefix_free()
+    ensures { (m n : Message) (x y : List ℕ) → IsMessage m → IsMessage n → message_bytes m ++ x ≡ message_bytes n ++ y → (m ≡ n) × (x ≡ y) }
+{}
 
 /// The message that a prefix of the bytes spells, with the prefix's length in bytes. None where no prefix spells one.
 pub fn decode(alloc: Global, bytes: &[u8]) -> Result<Option<(Message, usize)>, AllocError>

@@ -11,10 +11,12 @@ mod pages;
 mod properties;
 mod queue_ids;
 mod reply;
+#[cfg(test)]
+mod tests;
 mod weighing;
 
 pub use command::Command;
-pub use decoding::decode;
+pub use decoding::{decode, prefix_free};
 pub use encoding::encode;
 pub use limits::{LIMITS, Limits};
 pub use message::{Body, Message, MessageId};

@@ -23,6 +23,17 @@ pub enum Body {
     Large(u64),
 }
 
+impl Body {
+    fn copy(&self) -> Result<Body, AllocError>
+        ensures { IfOk result (λ copy. copy ≡ self.now) }
+    {
+        match self {
+            Body::Plain(bytes) => Ok(Body::Plain(bytes.copy()?)),
+            Body::Large(size) => Ok(Body::Large(*size)),
+        }
+    }
+}
+
 /// A message as it is kept. `docs/FORMATS.md` gives its bytes.
 #[derive(Debug, PartialEq, Eq, Drop)]
 pub struct Message {
@@ -32,4 +43,22 @@ pub struct Message {
     /// In the order of sending.
     pub properties: Properties,
     pub body: Body,
+}
+
+impl Message {
+    /// A second message with the same values. Fails only where there is no memory for it.
+    pub fn copy(&self, alloc: Global) -> Result<Message, AllocError>
+        ensures { IfOk result (λ copy. copy ≡ self.now) }
+    {
+        let dup = match &self.dup {
+            Some(id) => Some(id.copy()?),
+            None => None,
+        };
+        Ok(Message {
+            id: self.id,
+            dup,
+            properties: self.properties.copy(alloc)?,
+            body: self.body.copy()?,
+        })
+    }
 }

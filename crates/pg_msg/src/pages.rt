@@ -47,13 +47,12 @@ impl Pages {
 
 impl PartialEq for Pages {
     ghost use Rattle.std.specs.Prelude.{ℕ, ◌&&◌, nat_eq};
-    ghost use Rattle.std.proofs.Common.{rules};
-    ghost use Rattle.std.specs.Cmp.Rules.{comparing};
+    ghost use Rattle.std.specs.Cmp.{nat_eq_equiv, on_equiv, and_equiv, partial_equiv_from_equiv};
     ghost use Rattle.std.specs.Cmp.Lexicographic.{pointwise, lists_per};
 
     ghost eq = { pointwise (λ (a b : ℕ × ℕ). nat_eq a.0 b.0 && nat_eq a.1 b.1) };
 
-    ghost laws = { lists_per (Prim.search (comparing, rules)) };
+    ghost laws = { lists_per (partial_equiv_from_equiv (and_equiv (on_equiv (λ (row : ℕ × ℕ). row.0) nat_eq_equiv) (on_equiv (λ (row : ℕ × ℕ). row.1) nat_eq_equiv))) };
 
     fn eq(&self, other: &Pages) -> bool {
         self.as_slice() == other.as_slice()
@@ -61,9 +60,9 @@ impl PartialEq for Pages {
 }
 
 impl Eq for Pages {
-    ghost use Rattle.std.proofs.Common.{rules};
-    ghost use Rattle.std.specs.Cmp.Rules.{comparing};
+    ghost use Rattle.std.specs.Prelude.{ℕ};
+    ghost use Rattle.std.specs.Cmp.{nat_eq_equiv, on_equiv, and_equiv};
     ghost use Rattle.std.specs.Cmp.Lexicographic.{lists_equiv};
 
-    ghost laws = { lists_equiv (Prim.search (comparing, rules)) };
+    ghost laws = { lists_equiv (and_equiv (on_equiv (λ (row : ℕ × ℕ). row.0) nat_eq_equiv) (on_equiv (λ (row : ℕ × ℕ). row.1) nat_eq_equiv)) };
 }

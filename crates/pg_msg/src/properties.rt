@@ -1,5 +1,5 @@
 // The properties of a message.
-ghost use Rattle.std.specs.Prelude.{◌≡◌, ◌++◌, ◌∷◌, [], OnOk, OnErr};
+ghost use Rattle.std.specs.Prelude.{◌≡◌, ◌++◌, ◌∷◌, [], IfOk, OnOk, OnErr};
 
 use pg_bytes::Text;
 use std::alloc::{AllocError, Global};
@@ -20,6 +20,29 @@ pub struct Property {
     /// Of 1 to 64 bytes. `docs/FORMATS.md` says how it is spelled.
     pub name: Text,
     pub value: Value,
+}
+
+impl Value {
+    fn copy(&self) -> Result<Value, AllocError>
+        ensures { IfOk result (λ copy. copy ≡ self.now) }
+    {
+        match self {
+            Value::Text(text) => Ok(Value::Text(text.copy()?)),
+            Value::Whole(number) => Ok(Value::Whole(*number)),
+            Value::Truth(truth) => Ok(Value::Truth(*truth)),
+        }
+    }
+}
+
+impl Property {
+    fn copy(&self) -> Result<Property, AllocError>
+        ensures { IfOk result (λ copy. copy ≡ self.now) }
+    {
+        Ok(Property {
+            name: self.name.copy()?,
+            value: self.value.copy()?,
+        })
+    }
 }
 
 /// Properties, in an order.
@@ -61,6 +84,17 @@ impl Properties {
     {
         self.items.push(property)?;
         Ok(())
+    }
+
+    // A second value with the same properties.
+    pub(crate) fn copy(&self, alloc: Global) -> Result<Properties, AllocError>
+        ensures { IfOk result (λ copy. copy ≡ self.now) }
+    {
+        let mut copy = Properties::new(alloc);
+        for property in self.as_slice() {
+            copy.push(property.copy()?)?;
+        }
+        Ok(copy)
     }
 }
 

@@ -18,6 +18,7 @@ const LONGEST_ID: u8 = 64;
 
 // The kinds of messages.
 const PLAIN: u8 = 1;
+
 const LARGE: u8 = 2;
 
 /// The id of a message: its epoch and its number, each in 4 bytes and at least 1.

@@ -18,7 +18,9 @@ const MOST_PROPERTIES: u8 = 100;
 
 // The kinds of values.
 const TEXT: u8 = 1;
+
 const WHOLE: u8 = 2;
+
 const TRUTH: u8 = 3;
 
 // Properties of different names, behind their count in one byte.
