@@ -1,5 +1,5 @@
 // The entries that bytes spell.
-ghost use Rattle.std.specs.Prelude.{◌≡◌, List, length, IfOk, MatchOption, IsSomeAnd};
+ghost use Rattle.std.specs.Prelude.{◌≡◌, ℕ, List, length, IfOk, MatchOption, IsSomeAnd};
 ghost use Rattle.std.specs.Int.{w64};
 ghost use Rattle.pg_msg.specs.Reading.{Gives, positive_at};
 ghost use Rattle.pg_records.specs.declared.entry.Entry.{Entry};
@@ -30,6 +30,12 @@ pub fn decode_batch(alloc: Global, bytes: &[u8]) -> Result<Option<Vec<Entry>>, A
         Err(Unread::Memory) => Err(AllocError),
     }
 }
+
+/// A list of entries has one spelling, and bytes spell at most one list. This law has no code.
+pub fn one_reading()
+    ensures spelling { (entries : List Entry) (a b : List ℕ) → SpellsBatch a entries → SpellsBatch b entries → a ≡ b }
+    ensures reading { (bytes : List ℕ) (a b : List Entry) → SpellsBatch bytes a → SpellsBatch bytes b → a ≡ b }
+{}
 
 // At least one entry, and nothing behind the last.
 #[tactic(auto, unfolding(crate::specs::Reading::batch_at))]

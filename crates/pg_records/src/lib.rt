@@ -4,7 +4,9 @@
 mod decoding;
 mod encoding;
 mod entry;
+#[cfg(test)]
+mod tests;
 
-pub use decoding::decode_batch;
+pub use decoding::{decode_batch, one_reading};
 pub use encoding::encode_batch;
 pub use entry::Entry;

@@ -50,31 +50,29 @@ mod tests {
     use pg_msg::MessageId;
     use std::test::Fail;
 
+    // Whether the reply has this line.
+    fn has_line(alloc: Global, reply: Reply, line: &str) -> Result<bool, AllocError>
+        requires { IsBuilt reply }
+    {
+        Ok(render(alloc, reply)?.as_slice() == line.as_bytes())
+    }
+
     #[test]
     fn writes_replies(rt: HostRuntime) -> Result<(), Fail> {
-        for (reply, line) in [
-            (Reply::Done, "ok\n"),
-            (Reply::No(Refusal::Line), "no line\n"),
-            (Reply::No(Refusal::Name), "no name\n"),
-            (Reply::No(Refusal::Address), "no address\n"),
-            (Reply::No(Refusal::Queue), "no queue\n"),
-            (
-                Reply::Sent(MessageId {
-                    epoch: 1,
-                    number: 4_294_967_295,
-                }),
-                "sent 1-4294967295\n",
-            ),
-            (Reply::Unrouted, "unrouted\n"),
-            (Reply::Count(0), "count 0\n"),
-            (
-                Reply::Count(18_446_744_073_709_551_615),
-                "count 18446744073709551615\n",
-            ),
-        ] {
-            let bytes = render(rt.alloc(), reply)?;
-            assert_eq!(rt; bytes.as_slice(), line.as_bytes());
-        }
+        let alloc = rt.alloc();
+        let last = MessageId {
+            epoch: 1,
+            number: 4_294_967_295,
+        };
+        assert!(rt; has_line(alloc, Reply::Done, "ok\n")?);
+        assert!(rt; has_line(alloc, Reply::No(Refusal::Line), "no line\n")?);
+        assert!(rt; has_line(alloc, Reply::No(Refusal::Name), "no name\n")?);
+        assert!(rt; has_line(alloc, Reply::No(Refusal::Address), "no address\n")?);
+        assert!(rt; has_line(alloc, Reply::No(Refusal::Queue), "no queue\n")?);
+        assert!(rt; has_line(alloc, Reply::Sent(last), "sent 1-4294967295\n")?);
+        assert!(rt; has_line(alloc, Reply::Unrouted, "unrouted\n")?);
+        assert!(rt; has_line(alloc, Reply::Count(0), "count 0\n")?);
+        assert!(rt; has_line(alloc, Reply::Count(u64::MAX), "count 18446744073709551615\n")?);
         Ok(())
     }
 }
