@@ -72,7 +72,13 @@ mod tests {
         assert!(rt; has_line(alloc, Reply::Sent(last), "sent 1-4294967295\n")?);
         assert!(rt; has_line(alloc, Reply::Unrouted, "unrouted\n")?);
         assert!(rt; has_line(alloc, Reply::Count(0), "count 0\n")?);
-        assert!(rt; has_line(alloc, Reply::Count(u64::MAX), "count 18446744073709551615\n")?);
+        assert!(rt;
+            has_line(
+                alloc,
+                Reply::Count(u64::MAX),
+                "count 18446744073709551615\n"
+            )?
+        );
         Ok(())
     }
 }

@@ -36,7 +36,6 @@ returns-in_ok-hold-clause-sound c = λ sound a row room weight.
           (λ p ne. refl) sound.kept;
     }
 
-
 pub returns-in_default-clause-addresses : goal.returns-in_default-clause-addresses
 returns-in_default-clause-addresses c = rows_past c.args.self.now.addresses.entries c.args.place c.args.message (sym c.in_default.ensures.value)
 
