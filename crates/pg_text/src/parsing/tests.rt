@@ -56,13 +56,15 @@ fn makes_address(
     wanted: Option<(&str, u64, u64, u64, u32)>,
 ) -> Result<bool, AllocError> {
     match parse_line(alloc, line)? {
-        Some(Command::Address {
-            name,
-            max,
-            page,
-            ahead,
-            dup,
-        }) => Ok(wanted == Some((name.as_str(), max, page, ahead, dup))),
+        Some(
+            Command::Address {
+                name,
+                max,
+                page,
+                ahead,
+                dup,
+            },
+        ) => Ok(wanted == Some((name.as_str(), max, page, ahead, dup))),
         Some(_) => Ok(false),
         None => Ok(wanted.is_none()),
     }
@@ -118,11 +120,13 @@ fn makes_queue(
     wanted: Option<(&str, &str)>,
 ) -> Result<bool, AllocError> {
     match parse_line(alloc, line)? {
-        Some(Command::Queue {
-            name,
-            address,
-            filter: None,
-        }) => Ok(wanted == Some((name.as_str(), address.as_str()))),
+        Some(
+            Command::Queue {
+                name,
+                address,
+                filter: None,
+            },
+        ) => Ok(wanted == Some((name.as_str(), address.as_str()))),
         Some(_) => Ok(false),
         None => Ok(wanted.is_none()),
     }
@@ -157,14 +161,17 @@ const SENDS: [SendCase; 9] = [
 // Whether the line is read as a message with this body alone to this address, or is unreadable where none is wanted.
 fn sends(alloc: Global, line: &[u8], wanted: Option<(&str, &[u8])>) -> Result<bool, AllocError> {
     match parse_line(alloc, line)? {
-        Some(Command::Send {
-            address,
-            tx: None,
-            id: None,
-            properties,
-            body,
-        }) => Ok(properties.as_slice().is_empty()
-            && wanted == Some((address.as_str(), body.as_slice()))),
+        Some(
+            Command::Send {
+                address,
+                tx: None,
+                id: None,
+                properties,
+                body,
+            },
+        ) => Ok(
+            properties.as_slice().is_empty() && wanted == Some((address.as_str(), body.as_slice())),
+        ),
         Some(_) => Ok(false),
         None => Ok(wanted.is_none()),
     }
