@@ -1,0 +1,15 @@
+use Rattle.std.proofs.Common.{Bool, refl, sym, subst, ◌∙◌}
+use Rattle.std.proofs.lemmas.Bool.{false_from_ne_true}
+use Rattle.pg_msg.specs.Reading.{Gives, guarded, is_property_name}
+use Rattle.pg_msg.proofs.TestLaws.{property_name_decides, property_name_is_utf8}
+use Rattle.pg_msg.proofs.fields.names.property_name_of.Goals as goal
+
+pub returns-then-not-is_property_name : goal.returns-then-not-is_property_name
+returns-then-not-is_property_name c =
+    rw (false_from_ne_true (is_property_name c.args.name.now) (λ passed. let told = c.if-not-is_property_name.ensures.1 ((property_name_decides c.args.name.now).0 passed) in cc)) refl
+
+pub returns : goal.returns
+returns c =
+    let name = c.args.name.now in
+    let is = c.if-not-is_property_name.ensures.0 refl in
+    subst (λ (test : Bool). Gives (λ text. text) c.text_of.result (guarded test name)) (property_name_is_utf8 name is ∙ sym ((property_name_decides name).1 is)) c.text_of.ensures

@@ -1,0 +1,6 @@
+pub mod Commands
+pub mod Lists
+pub mod Messages
+pub mod Names
+pub mod Reading
+pub mod Replies

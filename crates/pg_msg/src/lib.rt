@@ -1,0 +1,27 @@
+//! Messages, commands and replies, and how a message is spelled.
+#![tactic(auto)]
+
+mod command;
+mod decoding;
+mod encoding;
+pub mod fields;
+mod limits;
+mod message;
+mod pages;
+mod properties;
+mod queue_ids;
+mod reply;
+#[cfg(test)]
+mod tests;
+mod weighing;
+
+pub use command::Command;
+pub use decoding::{decode, prefix_free};
+pub use encoding::encode;
+pub use limits::{LIMITS, Limits};
+pub use message::{Body, Message, MessageId};
+pub use pages::Pages;
+pub use properties::{Properties, Property, Value};
+pub use queue_ids::QueueIds;
+pub use reply::{Refusal, Reply};
+pub use weighing::weight;

@@ -1,0 +1,6 @@
+pub mod Appending
+pub mod BatchLaws
+pub mod EntryLaws
+pub mod FieldLaws
+pub mod Spelling
+pub mod Texts

@@ -1,0 +1,3 @@
+pub mod Acknowledgements
+pub mod Entries
+pub mod Reading
