@@ -26,8 +26,8 @@ const FIRST: FileId = FileId {
     number: 1,
 };
 
-/// The journal: the last of its generations that has a batch, at rest. As of a `Rest`, after an Err of a call that takes
-/// it by value it has to be found anew.
+/// The journal, at rest in the generation with which it goes on. As with a `Rest`, after an Err of a call that takes it
+/// by value it has to be found anew.
 #[derive(Debug, PartialEq, Eq, Drop)]
 pub struct Journal {
     pub(crate) rest: Rest,
@@ -36,8 +36,8 @@ pub struct Journal {
 impl Journal {
     /// Finds the journal, with the places of its payloads in their order: it scans the generations from the last one
     /// back, until one has a batch. Where none has, the last one that is there goes on; where none is there, the first
-    /// one is laid. The generations behind the one with a batch that is found are mended like it, those before it aren't
-    /// read. Those of owners other than 0 are read like the others. `Damaged` with the rule `Cut` and the gate's offset
+    /// one is laid. Each generation that is scanned is synced and mended; those before the one with a batch aren't read.
+    /// Those of owners other than 0 are read like the others. `Damaged` with the rule `Cut` and the gate's offset
     /// comes where one that is read is cut; the other errors are that the disk failed and that there was no memory.
     pub fn find<D: Disk>(alloc: Global, disk: &mut D) -> Result<(Journal, Vec<Span>), Fault>
         ensures found { IfOk result (λ found. IsHonest (D.tells disk.old) → (batches : _) ×
