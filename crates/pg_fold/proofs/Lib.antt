@@ -1,0 +1,3 @@
+pub mod AddressLemmas
+pub mod JournaledLemmas
+pub mod QueueLemmas
