@@ -1,5 +1,5 @@
 -- The ids of the addresses are their places, so an id is known exactly where it is a place.
-use Rattle.std.proofs.Common.{◌≡◌, ◌⊎◌, refl, ℕ, ◌+◌, ◌-◌, ◌<◌, ◌≤◌, Bool, true, false, leb, eqb, List, [], ◌∷◌, ◌++◌, length, get_or, sym, ◌∙◌, ap, inl, inr, subst, arith, length-append, eq-eqb, ne_eqb}
+use Rattle.std.proofs.Common.{◌≡◌, ◌⊎◌, refl, ℕ, ◌+◌, ◌-◌, ◌<◌, ◌≤◌, true, false, leb, eqb, List, [], ◌∷◌, ◌++◌, length, get_or, sym, ◌∙◌, ap, inl, inr, arith, length-append, eq-eqb, ne_eqb}
 use Rattle.std.proofs.lemmas.Bool.{leb-true, leb-false, lt-leb, cases_lt, cases_Bool}
 use Rattle.std.proofs.lemmas.List.{get_or_append_left, get_or-append_right}
 use Rattle.std.proofs.lemmas.List.Folds.{list_any_at, list_any_none}
@@ -21,8 +21,8 @@ unknown rows id numbered outside =
 pub known_up_to : (rows : List AddressRow) (id : ℕ) → AreNumbered rows → 1 ≤ id → leb id (length rows) ≡ has_address rows id
 known_up_to rows id numbered low =
     elim (cases_Bool (leb id (length rows))) [
-      inl high ↦ high ∙ sym (known rows id numbered low (leb-true id (length rows) high))
-    | inr above ↦ above ∙ sym (unknown rows id numbered (inr (leb-false id (length rows) above)))
+      | inl high ↦ high ∙ sym (known rows id numbered low (leb-true id (length rows) high))
+      | inr above ↦ above ∙ sym (unknown rows id numbered (inr (leb-false id (length rows) above)))
     ]
 
 -- and no address has the id 0
@@ -34,9 +34,9 @@ pub numbered_push : (rows : List AddressRow) (row : AddressRow) → AreNumbered 
 numbered_push rows row numbered next k d within =
     let many = length-append rows (row ∷ []) in
     elim (cases_lt k (length rows)) [
-      inl before ↦ ap (λ r. r.id) (get_or_append_left rows (row ∷ []) d k before) ∙ numbered k d before
-    | inr behind ↦
-        let last : k ≡ length rows = omega arith in
-        let none : k - length rows ≡ 0 = omega arith in
-        ap (λ r. r.id) (get_or-append_right rows (row ∷ []) (length rows) k d refl behind ∙ ap (λ n. get_or (row ∷ []) n d) none) ∙ next ∙ ap (λ n. n + 1) (sym last)
+      | inl before ↦ ap (λ r. r.id) (get_or_append_left rows (row ∷ []) d k before) ∙ numbered k d before
+      | inr behind ↦
+          let last : k ≡ length rows = omega arith in
+          let none : k - length rows ≡ 0 = omega arith in
+          ap (λ r. r.id) (get_or-append_right rows (row ∷ []) (length rows) k d refl behind ∙ ap (λ n. get_or (row ∷ []) n d) none) ∙ next ∙ ap (λ n. n + 1) (sym last)
     ]

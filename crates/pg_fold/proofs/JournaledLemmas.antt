@@ -1,6 +1,6 @@
 -- No message has an id above the greatest, so an id above that is new. What an acknowledgement changes, at the message's place.
-use Rattle.std.proofs.Common.{◌≡◌, ◌⊎◌, refl, ℕ, zero, suc, ◌+◌, ◌-◌, ◌<◌, ◌≤◌, Bool, true, false, not, ◌&&◌, ◌||◌, cond, eqb, List, [], ◌∷◌, ◌++◌, length, get_or, get_or-set_same, set, map, Option, Some, None, sym, ◌∙◌, ap, inl, inr, subst, arith}
-use Rattle.std.specs.List.{All, remove, position, position_or_len}
+use Rattle.std.proofs.Common.{◌≡◌, refl, ℕ, zero, suc, ◌+◌, ◌<◌, ◌≤◌, Bool, true, false, not, cond, List, [], ◌∷◌, ◌++◌, length, get_or, get_or-set_same, set, map, Some, None, sym, ◌∙◌, ap, inl, inr, subst, arith}
+use Rattle.std.specs.List.{remove, position, position_or_len}
 use Rattle.std.proofs.lemmas.Bool.{cases_Bool, cases_lt, lt-ltb, cond-true, cond-false, cond_both}
 use Rattle.std.proofs.lemmas.Bool.Decides.{nat_tests}
 use Rattle.std.proofs.lemmas.List.Elements.{All-filter, All-map, All-push, All-head, All-tail, All-cons, All-weaker}
@@ -55,18 +55,18 @@ module _ (queue : ℕ) (id : MessageId) where
   acknowledged_past [] past = refl
   acknowledged_past (row ∷ rows) past =
       elim (cases_Bool (matches row)) [
-        inl here ↦
-          let first : position_or_len matches (row ∷ rows) ≡ 0 = cond-false (not (matches row)) (1 + position_or_len matches rows) 0 (ap not here) in absurd (omega (arith, past, first))
-      | inr elsewhere ↦
-          let later : position_or_len matches (row ∷ rows) ≡ 1 + position_or_len matches rows = cond-true (not (matches row)) (1 + position_or_len matches rows) 0 (ap not elsewhere) in
-          cond-false (matches row) _ _ elsewhere ∙ ap (λ others. row ∷ others) (acknowledged_past rows (omega (arith, past, later)))
+        | inl here ↦
+            let first : position_or_len matches (row ∷ rows) ≡ 0 = cond-false (not (matches row)) (1 + position_or_len matches rows) 0 (ap not here) in absurd (omega (arith, past, first))
+        | inr elsewhere ↦
+            let later : position_or_len matches (row ∷ rows) ≡ 1 + position_or_len matches rows = cond-true (not (matches row)) (1 + position_or_len matches rows) 0 (ap not elsewhere) in
+            cond-false (matches row) _ _ elsewhere ∙ ap (λ others. row ∷ others) (acknowledged_past rows (omega (arith, past, later)))
       ]
 
   pub acknowledged_nowhere : (rows : List JournaledRow) → None ≡ position matches rows → rows ≡ acknowledged queue id rows
   acknowledged_nowhere rows none =
       elim (cases_lt (position_or_len matches rows) (length rows)) [
-        inl within ↦ absurd (some_isnt_none (sym (cond-true _ _ _ (lt-ltb _ _ within)) ∙ sym none))
-      | inr past ↦ sym (acknowledged_past rows past)
+        | inl within ↦ absurd (some_isnt_none (sym (cond-true _ _ _ (lt-ltb _ _ within)) ∙ sym none))
+        | inr past ↦ sym (acknowledged_past rows past)
       ]
     where
       some_isnt_none : {place : ℕ} → Some place ≡ None → ⊥

@@ -1,5 +1,5 @@
 -- What is looked for among the rows of each kind, what is taken out of them, and the order that they keep.
-use Rattle.std.specs.Prelude.{◌≡◌, ◌+◌, ◌<◌, ℕ, Bool, true, false, not, ◌&&◌, ◌||◌, List, [], ◌∷◌, length, map, filter, count_by, nat_lt, ◌==◌, if◌then◌else◌, slice_index_or, All, AllPairs}
+use Rattle.std.specs.Prelude.{◌≡◌, ◌+◌, ◌<◌, ℕ, Bool, false, not, ◌&&◌, ◌||◌, List, [], ◌∷◌, length, map, filter, count_by, nat_lt, ◌==◌, if◌then◌else◌, slice_index_or, All, AllPairs}
 use Rattle.std.specs.List.{list_any}
 use Rattle.std.specs.Str.{bytes_eq}
 use Rattle.pg_msg.specs.declared.message.MessageId.{MessageId}

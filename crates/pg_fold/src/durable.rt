@@ -23,7 +23,7 @@ const MOST_QUEUES: usize = 1000;
 /// No queue has this id or a greater one.
 const QUEUE_IDS: u32 = 4_294_967_295;
 
-/// What outlives a run, as the journal's entries give it. `docs/RULES.md` has the condition and the effect of each entry.
+/// What outlives a run, as the journal's entries give it. `docs/FORMATS.md` has the condition and the effect of each.
 #[derive(Debug, Drop)]
 pub struct Durable {
     /// How many times the broker was opened.
@@ -49,9 +49,9 @@ impl Durable {
         }
     }
 
-    /// The state behind the entry. `Broken` comes exactly where the entry's condition fails, with the rule of the first part
-    /// of it that does. Filters aren't built, so a queue with one breaks `Name`, and so does each entry on pages,
-    /// transactions, duplicate ids and large messages.
+    /// The state behind the entry. `Broken` comes where the entry's condition fails, with the rule of the first part that
+    /// does. Filters aren't built: a queue with one breaks `Name`, where it doesn't break `Repeat`. Neither are the entries
+    /// on pages, transactions, duplicate ids and large messages, which break `Name`.
     pub fn apply(self, alloc: Global, entry: Entry) -> Result<Durable, FoldError>
         ensures applied { IfOk result (IsApplied self entry) }
         ensures broken { IfErr result (IsBrokenBy (rule_of self entry)) }
@@ -108,7 +108,10 @@ impl Durable {
         ensures broken { IfErr result (IsBrokenBy (rule_of self (entries.Address address name max page ahead dup))) }
     {
         let count = self.addresses.as_slice().len();
-        if address as usize != count + 1 || self.addresses.has_named(&name) || count >= MOST_ADDRESSES {
+        if address as usize != count + 1
+            || self.addresses.has_named(&name)
+            || count >= MOST_ADDRESSES
+        {
             return Err(FoldError::Broken(Rule::Repeat));
         }
         if !are_in_range(max, page, ahead, dup) {
@@ -139,7 +142,10 @@ impl Durable {
         if queue != self.next || queue >= QUEUE_IDS || self.queues.has_named(&name) {
             return Err(FoldError::Broken(Rule::Repeat));
         }
-        if !self.addresses.has(address) || self.queues.count_at(address) >= MOST_QUEUES || !filter.as_str().is_empty() {
+        if !self.addresses.has(address)
+            || self.queues.count_at(address) >= MOST_QUEUES
+            || !filter.as_str().is_empty()
+        {
             return Err(FoldError::Broken(Rule::Name));
         }
         self.queues.push(QueueRow {
@@ -173,7 +179,10 @@ impl Durable {
         ensures applied { IfOk result (IsApplied self (entries.Add address queues message)) }
         ensures broken { IfErr result (IsBrokenBy (rule_of self (entries.Add address queues message))) }
     {
-        if !self.addresses.has(address) || !self.queues.have_at(address, queues.as_slice()) || message.id.epoch > self.epoch {
+        if !self.addresses.has(address)
+            || !self.queues.have_at(address, queues.as_slice())
+            || message.id.epoch > self.epoch
+        {
             return Err(FoldError::Broken(Rule::Name));
         }
         if self.journaled.has(message.id) {
@@ -187,7 +196,12 @@ impl Durable {
         Ok(self)
     }
 
-    fn acknowledge(mut self, alloc: Global, queue: u32, message: MessageId) -> Result<Durable, FoldError>
+    fn acknowledge(
+        mut self,
+        alloc: Global,
+        queue: u32,
+        message: MessageId,
+    ) -> Result<Durable, FoldError>
         ensures applied { IfOk result (IsApplied self (entries.Ack queue message)) }
         ensures broken { IfErr result (IsBrokenBy (rule_of self (entries.Ack queue message))) }
     {
@@ -214,5 +228,9 @@ impl Durable {
 fn are_in_range(max: u64, page: u64, ahead: u64, dup: u32) -> bool
     ensures { result ≡ are_settings max page ahead dup }
 {
-    max <= 1_000_000_000_000 && 1 <= page && page <= 1_000_000_000 && ahead <= 1_000_000_000 && dup <= 65_535
+    max <= 1_000_000_000_000
+        && 1 <= page
+        && page <= 1_000_000_000
+        && ahead <= 1_000_000_000
+        && dup <= 65_535
 }

@@ -5,12 +5,16 @@ mod addresses;
 mod durable;
 mod fold_error;
 mod journaled;
+mod laws;
 mod queues;
 mod rows;
+#[cfg(test)]
+mod tests;
 
 pub use addresses::AddressRows;
 pub use durable::Durable;
 pub use fold_error::FoldError;
 pub use journaled::JournaledRows;
+pub use laws::fold_in_parts;
 pub use queues::QueueRows;
 pub use rows::{AddressRow, JournaledRow, QueueRow};

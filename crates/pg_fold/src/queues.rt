@@ -66,7 +66,10 @@ impl QueueRows {
     pub(crate) fn count_at(&self, address: u32) -> usize
         ensures { result ≡ queues_at self.now address }
     {
-        self.rows.iter().filter(|row| row.address == address).count()
+        self.rows
+            .iter()
+            .filter(|row| row.address == address)
+            .count()
     }
 
     // Whether there is one with this id, and it is of this address.
@@ -74,7 +77,10 @@ impl QueueRows {
         ensures { result ≡ has_queue_at self.now address id }
     {
         if !self.ascending {
-            return self.rows.iter().any(|row| row.id == id && row.address == address);
+            return self
+                .rows
+                .iter()
+                .any(|row| row.id == id && row.address == address);
         }
         match self.rows.binary_search_by_key(&id, |row| row.id) {
             Ok(place) => self.rows[place].address == address,

@@ -3,7 +3,7 @@
 use pg_bytes::Text;
 use pg_msg::{Message, QueueIds};
 
-/// An address. `docs/RULES.md` gives the ranges of the settings.
+/// An address. `docs/FORMATS.md` gives the ranges of the settings.
 #[derive(Debug, PartialEq, Eq, Drop)]
 pub struct AddressRow {
     /// Its place among the addresses, from 1.

@@ -1,6 +1,5 @@
-use Rattle.std.proofs.Common.{◌≡◌, ℕ, sym, subst, ap, ◌∙◌, None, Some, length}
+use Rattle.std.proofs.Common.{◌≡◌, subst, ◌∙◌, None, Some}
 use Rattle.std.specs.List.{position}
-use Rattle.pg_fold.specs.declared.rows.JournaledRow.{JournaledRow}
 use Rattle.pg_fold.specs.Rows.{same_id}
 use Rattle.pg_fold.proofs.JournaledLemmas.{acknowledged_nowhere, kept, taken}
 use Rattle.pg_fold.proofs.journaled.acknowledge_in.Goals as goal

@@ -1,4 +1,4 @@
-use Rattle.std.proofs.Common.{◌≡◌, ℕ, subst, sym, ap, ◌∙◌, refl, rules, of_calls, Ok, Err, eqb, length, ◌<◌}
+use Rattle.std.proofs.Common.{subst, ap, ◌∙◌, rules, of_calls, Ok, Err, length, ◌<◌}
 use Rattle.std.specs.List.Sorted.{IsBinarySearchResult}
 use Rattle.std.specs.Ordering.{nat_cmp}
 use Rattle.std.proofs.lemmas.Fn.{always_returns_same}

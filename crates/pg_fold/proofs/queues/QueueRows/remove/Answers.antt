@@ -1,4 +1,4 @@
-use Rattle.std.proofs.Common.{◌≡◌, ◌<◌, not, eqb, subst, sym, ap, ◌∙◌, rules}
+use Rattle.std.proofs.Common.{◌<◌, not, eqb, subst, sym, ap, ◌∙◌, rules}
 use Rattle.std.proofs.lemmas.Fn.{filter_same}
 use Rattle.std.proofs.lemmas.List.Kept.{AllPairs-filter}
 use Rattle.pg_fold.specs.declared.rows.QueueRow.{QueueRow}
