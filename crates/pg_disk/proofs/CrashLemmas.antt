@@ -18,8 +18,9 @@ use Rattle.pg_disk.specs.Files.{Files, file_cmp}
 use Rattle.pg_disk.specs.Image.{IsLeftAt, Leaves}
 use Rattle.pg_disk.specs.Left.{counts_as_done, happened, left_at, left_replay}
 use Rattle.pg_disk.specs.Reads.{reads}
-use Rattle.pg_disk.specs.Replay.{start, step, replay, quiet_file, after_put, after_told, written_file, synced_file, LeftIn, LeftSince}
+use Rattle.pg_disk.specs.Replay.{start, step, completed, replay, quiet_file, after_put, after_told, written_file, synced_file, LeftIn, LeftSince}
 use Rattle.std.specs.BTreeMap as tree
+use Rattle.pg_disk.proofs.CompleteLemmas.{call_completed}
 use Rattle.pg_disk.proofs.ContentLemmas.{Tree, Held, items_of, bytes_of}
 use Rattle.pg_disk.proofs.Effects.{honest, told_changed, told_created, told_removed, eq_from_true}
 use Rattle.pg_disk.specs.Recorded.{Recorded}
@@ -34,12 +35,12 @@ use Rattle.std.specs.FinMap.{get, insert, empty, get-empty, get-insert}
 none_is : {X A : Type 0} (x : A) → None ≡ Some x → X
 none_is x e = cc
 
+some_is : {X : Type 0} (x y : X) → Some x ≡ Some y → x ≡ y
+some_is x y e = cc
+
 pub take_next : (es : List Event) (n : ℕ) (e : Event) → slice_get es n ≡ Some e → take (suc n) es ≡ take n es ++ e ∷ []
 take_next [] n e is = none_is e is
-take_next (x ∷ es) zero e is = ap (λ (y : Event). y ∷ []) (same x e is)
-  where
-    same : (x e : Event) → Some x ≡ Some e → x ≡ e
-    same x e is = cc
+take_next (x ∷ es) zero e is = ap (λ (y : Event). y ∷ []) (some_is x e is)
 take_next (x ∷ es) (suc n) e is = ap (λ (l : List Event). x ∷ l) (take_next es n e is)
 
 -- a call tells nothing
@@ -59,16 +60,16 @@ first_in : (a : Account) (es : List Event) (c : Files) (b : List ℕ) → Leaves
 first_in a [] c b now = now
 first_in a (e ∷ es) c b now = inl now
 
--- just after the next event
-second_in : (a : Account) (es : List Event) (t : ℕ) (c : Files) (b : List ℕ) → Leaves (Some (replay a (take (suc t) es))) c b → LeftIn (replay a (take t es)) (drop t es) c b
-second_in a [] zero c b now = now
-second_in a [] (suc t) c b now = now
-second_in a (e ∷ es) zero c b now = inr (first_in (step e a) es c b now)
-second_in a (e ∷ es) (suc t) c b now = second_in (step e a) es t c b now
+-- where the next event is complete
+whole_in : (a : Account) (es : List Event) (t : ℕ) (e : Event) (c : Files) (b : List ℕ) → slice_get es t ≡ Some e → Leaves (Some (step (completed e) (replay a (take t es)))) c b → LeftIn (replay a (take t es)) (drop t es) c b
+whole_in a [] t e c b is whole = none_is e is
+whole_in a (x ∷ es) zero e c b is whole = inr (inl (subst (λ y. Leaves (Some (step (completed y) a)) c b) (sym (some_is x e is)) whole))
+whole_in a (x ∷ es) (suc t) e c b is whole = whole_in (step x a) es t e c b is whole
 
-since_either : (es : List Event) (t : ℕ) (c : Files) (b : List ℕ) → Leaves (Some (replay start (take t es))) c b ⊎ Leaves (Some (replay start (take (t + 1) es))) c b → LeftSince es t c b
-since_either es t c b (inl before) = first_in (replay start (take t es)) (drop t es) c b before
-since_either es t c b (inr after) = second_in start es t c b (subst (λ n. Leaves (Some (replay start (take n es))) c b) (add-one t) after)
+since_either : (es : List Event) (t : ℕ) (e : Event) (c : Files) (b : List ℕ) → slice_get es t ≡ Some e
+    → Leaves (Some (replay start (take t es))) c b ⊎ Leaves (Some (step (completed e) (replay start (take t es)))) c b → LeftSince es t c b
+since_either es t e c b is (inl before) = first_in (replay start (take t es)) (drop t es) c b before
+since_either es t e c b is (inr whole) = whole_in start es t e c b is whole
 
 -- files with what is left are an image
 leaves_left : (pick : Pick) (es : List Event) (new : Account) → ((f : FileId) → content_at new.files f ≡ content_at (left_replay pick start start es).files f) → new.told ≡ (replay start es).told
@@ -79,30 +80,29 @@ leaves_left pick es new has told = record {
   told = told;
 }
 
-told_until : (es : List Event) (place : ℕ) (e : Event) → slice_get es place ≡ Some e → IsSome (call_of e) → (done : Bool) → (replay start (take (cond done (place + 1) place) es)).told ≡ (replay start (take place es)).told
-told_until es place e there is true =
-    ap (λ n. (replay start (take n es)).told) (add-one place) ∙ ap (λ (l : List Event). (replay start l).told) (take_next es place e there)
-    ∙ ap (λ (a : Account). a.told) (after_push start (take place es) e) ∙ told_of_call e (replay start (take place es)) is
-told_until es place e there is false = refl
+-- the call that is stopped tells nothing
+told_until : (es : List Event) (e : Event) → IsSome (call_of e) → (done : Bool) → (replay start (es ++ cond done (completed e ∷ []) [])).told ≡ (replay start es).told
+told_until es e is true = ap (λ (a : Account). a.told) (after_push start es (completed e)) ∙ told_of_call (completed e) (replay start es) (subst (λ (o : Option CallKind). IsSome o) (sym (call_completed e)) is)
+told_until es e is false = ap (λ (l : List Event). (replay start l).told) (append-nil es)
 
-either : (es : List Event) (place : ℕ) (c : Files) (b : List ℕ) (done : Bool) → Leaves (Some (replay start (take (cond done (place + 1) place) es))) c b
-    → Leaves (Some (replay start (take place es))) c b ⊎ Leaves (Some (replay start (take (place + 1) es))) c b
-either es place c b true left = inr left
-either es place c b false left = inl left
+either : (es : List Event) (e : Event) (c : Files) (b : List ℕ) (done : Bool) → Leaves (Some (replay start (es ++ cond done (completed e ∷ []) []))) c b
+    → Leaves (Some (replay start es)) c b ⊎ Leaves (Some (step (completed e) (replay start es))) c b
+either es e c b true left = inr (subst (λ a. Leaves (Some a) c b) (after_push start es (completed e)) left)
+either es e c b false left = inl (subst (λ (l : List Event). Leaves (Some (replay start l)) c b) (append-nil es) left)
 
 pub is_left_within : (es : List Event) (number place : ℕ) (e : Event) (pick : Pick) (new : Account) → IsCallAt es number place e
-    → ((f : FileId) → content_at new.files f ≡ content_at (left_at pick es e place).files f) → new.told ≡ (replay start (take (happened pick e place) es)).told → LeftWithin es number pick new
+    → ((f : FileId) → content_at new.files f ≡ content_at (left_at pick es e place).files f) → new.told ≡ (replay start (happened pick es e place)).told → LeftWithin es number pick new
 is_left_within es number place e pick new call has told =
     let done = counts_as_done pick e in
-    let two = either es place (reads new.files) new.told done (leaves_left pick (take (happened pick e place) es) new has told) in
+    let two = either (take place es) e (reads new.files) new.told done (leaves_left pick (happened pick es e place) new has told) in
     record {
       place = place;
       event = e;
       call = call;
-      told = told ∙ told_until es place e call.there call.is_call done;
+      told = told ∙ told_until (take place es) e call.is_call done;
       contents = has;
       left = two;
-      since = since_either es place (reads new.files) new.told two;
+      since = since_either es place e (reads new.files) new.told call.there two;
     }
 
 -- what the tree has, and else what the files have

@@ -25,11 +25,11 @@ outside : (at : ℕ) (bytes old : List ℕ) (i : ℕ) → i < length old → (i 
 outside at bytes old i lt (inl low) = get_or_append_left (take at old) (bytes ++ drop (at + length bytes) old) 0 i (omega (arith, length-take at old, lt, low)) ∙ get_or-take at old i 0 low
 outside at bytes old i lt (inr high) = outside_overwritten at bytes old (omega (arith, lt, high)) i lt (inr high)
 
-reads_outside : (at : ℕ) (bytes : List ℕ) (done : Bool) (s : FileState) (i : ℕ) → i < length s.bytes → (i < at) ⊎ (at + length bytes ≤ i) → get_or (written_file at bytes done s).bytes i 0 ≡ get_or s.bytes i 0
+pub reads_outside : (at : ℕ) (bytes : List ℕ) (done : Bool) (s : FileState) (i : ℕ) → i < length s.bytes → (i < at) ⊎ (at + length bytes ≤ i) → get_or (written_file at bytes done s).bytes i 0 ≡ get_or s.bytes i 0
 reads_outside at bytes true s i lt where_ = outside at bytes s.bytes i lt where_
 reads_outside at bytes false s i lt where_ = refl
 
-out_of_range : (at count i : ℕ) (ranges : List (ℕ × ℕ)) → (IsIn ((at, count) ∷ ranges) i → ⊥) → (i < at) ⊎ (at + count ≤ i)
+pub out_of_range : (at count i : ℕ) (ranges : List (ℕ × ℕ)) → (IsIn ((at, count) ∷ ranges) i → ⊥) → (i < at) ⊎ (at + count ≤ i)
 out_of_range at count i ranges clear = elim (lt_or_le i at) [
   | inl low ↦ inl low
   | inr from ↦ elim (lt_or_le i (at + count)) [ inl within ↦ absurd (clear (inl (from, within))) | inr high ↦ inr high ]

@@ -6,7 +6,7 @@ use Rattle.pg_disk.specs.Account.{Account}
 use Rattle.pg_disk.specs.Image.{Leaves}
 use Rattle.pg_disk.specs.Moments.{Elapses}
 use Rattle.pg_disk.specs.declared.call_record.Event.{Event}
-use Rattle.pg_disk.specs.Replay.{step, replay, LeftIn, LeftSince, start}
+use Rattle.pg_disk.specs.Replay.{step, completed, replay, LeftIn, LeftSince, start}
 
 pub after_push : (a : Account) (es : List Event) (e : Event) → replay a (es ++ e ∷ []) ≡ step e (replay a es)
 after_push a [] e = refl
@@ -28,16 +28,19 @@ either_way (Err x) P old new e ok err pushed same = subst P (sym err) same
 pub by_push : {T E : Type 0} (r : Result T E) (P : Account → Type 0) (old new : List Event) (e : Event) → OnOk r (new ≡ old ++ e ∷ []) → OnErr r (new ≡ old) → P (step e (replay start old)) → P (replay start old) → P (replay start new)
 by_push r P old new e ok err stepped same = either_way r (λ es. P (replay start es)) old new e ok err (by_event P old (old ++ e ∷ []) e refl stepped) same
 
-adds : (a : Account) (es : List Event) (e : Event) (c : Files) (b : List ℕ) → LeftIn a (es ++ e ∷ []) c b → LeftIn a es c b ⊎ Leaves (Some (step e (replay a es))) c b
+adds : (a : Account) (es : List Event) (e : Event) (c : Files) (b : List ℕ) → LeftIn a (es ++ e ∷ []) c b
+    → LeftIn a es c b ⊎ (Leaves (Some (step (completed e) (replay a es))) c b ⊎ Leaves (Some (step e (replay a es))) c b)
 adds a [] e c b (inl now) = inl now
 adds a [] e c b (inr new) = inr new
 adds a (x ∷ es) e c b (inl now) = inl (inl now)
-adds a (x ∷ es) e c b (inr there) = ⊎_elim (λ was. inl (inr was)) (λ new. inr new) (adds (step x a) es e c b there)
+adds a (x ∷ es) e c b (inr (inl whole)) = inl (inr (inl whole))
+adds a (x ∷ es) e c b (inr (inr there)) = ⊎_elim (λ was. inl (inr (inr was))) (λ new. inr new) (adds (step x a) es e c b there)
 
 keeps : (a : Account) (es : List Event) (e : Event) (c : Files) (b : List ℕ) → LeftIn a es c b → LeftIn a (es ++ e ∷ []) c b
 keeps a [] e c b now = inl now
 keeps a (x ∷ es) e c b (inl now) = inl now
-keeps a (x ∷ es) e c b (inr there) = inr (keeps (step x a) es e c b there)
+keeps a (x ∷ es) e c b (inr (inl whole)) = inr (inl whole)
+keeps a (x ∷ es) e c b (inr (inr there)) = inr (inr (keeps (step x a) es e c b there))
 
 after_split : (a : Account) (t : ℕ) (es : List Event) → replay (replay a (take t es)) (drop t es) ≡ replay a es
 after_split a zero es = refl
@@ -48,14 +51,16 @@ after_split a (suc t) (x ∷ es) = after_split (step x a) t es
 pub elapses_same : (es : List Event) (within : Files → List ℕ → Type 0) → Elapses (length es) (length es) (LeftSince es) (LeftSince es) within
 elapses_same es within = record { later = omega arith; nothing_else = λ t c b le left. inl left; keeps = λ t c b le left. left }
 
--- one more moment, at which a crash leaves what the account after the event allows
+-- one more moment, at which a crash leaves what the account after the event allows, or after the complete one
 pub elapses_to : (old new : List Event) (e : Event) (within : Files → List ℕ → Type 0) → new ≡ old ++ e ∷ [] → ((c : Files) (b : List ℕ) → Leaves (Some (step e (replay start old))) c b → within c b)
+    → ((c : Files) (b : List ℕ) → Leaves (Some (step (completed e) (replay start old))) c b → within c b)
     → Elapses (length old) (length new) (LeftSince old) (LeftSince new) within
-elapses_to old new e within is here = subst (λ (es : List Event). Elapses (length old) (length es) (LeftSince old) (LeftSince es) within) (sym is) (record {
+elapses_to old new e within is here whole = subst (λ (es : List Event). Elapses (length old) (length es) (LeftSince old) (LeftSince es) within) (sym is) (record {
   later = omega (arith, length-append old (e ∷ []));
   nothing_else = λ t c b le left.
       let moved : LeftIn (replay start (take t old)) (drop t old ++ e ∷ []) c b = split t c b le left in
-      ⊎_elim (λ was. inl was) (λ new. inr (here c b (subst (λ a. Leaves (Some (step e a)) c b) (after_split start t old) new))) (adds (replay start (take t old)) (drop t old) e c b moved);
+      ⊎_elim (λ was. inl was) (⊎_elim (λ new. inr (whole c b (subst (λ a. Leaves (Some (step (completed e) a)) c b) (after_split start t old) new))) (λ new. inr (here c b (subst (λ a. Leaves (Some (step e a)) c b) (after_split start t old) new))))
+      (adds (replay start (take t old)) (drop t old) e c b moved);
   keeps = λ t c b le left. join t c b le (keeps (replay start (take t old)) (drop t old) e c b left);
 })
   where

@@ -14,10 +14,10 @@ use Rattle.pg_disk.specs.declared.memory_state.MemoryState.{MemoryState}
 use Rattle.pg_disk.specs.MemoryState.{account_of}
 use Rattle.pg_disk.specs.Account.{FileState, Account}
 use Rattle.pg_disk.specs.Contents.{content_at, HasContents, ComesTo}
-use Rattle.pg_disk.specs.Crash.{Follows, Redoes, IsCallAt, LeftWithin}
+use Rattle.pg_disk.specs.Crash.{Follows, Redoes, RedoesAll, IsCallAt, LeftWithin}
 use Rattle.pg_disk.specs.Files.{file_cmp}
-use Rattle.pg_disk.specs.Left.{left_as_read, left_after, left_replay, happened}
-use Rattle.pg_disk.specs.Replay.{start, replay, step, overwritten_content, written_file, quiet_file, synced_file, with_changed_file, if_done, after_write, after_sync, after_put}
+use Rattle.pg_disk.specs.Left.{left_as_read, left_after, left_replay, counts_as_done, last_done, happened, left_at}
+use Rattle.pg_disk.specs.Replay.{start, replay, step, completed, overwritten_content, written_file, quiet_file, synced_file, with_changed_file, if_done, after_write, after_sync, after_put}
 use Rattle.pg_disk.proofs.Bytes.{lt_or_le}
 use Rattle.pg_disk.proofs.ContentLemmas.{Tree, Held, items_of, bytes_of, some_items, put_contents, same_contents, changed_contents, comes_put, told_changed}
 use Rattle.pg_disk.proofs.FileOrder.{files_total}
@@ -126,6 +126,19 @@ redoes_as r pick old new x e is does = subst (λ y. OnOk r (Redoes (step y) (lef
 pub redoes_is : (pick : Pick) (old new : Remains) (x e : Event) → x ≡ e → Redoes (step e) (left_after pick e) old new → Redoes (step x) (left_after pick x) old new
 redoes_is pick old new x e is does = subst (λ y. Redoes (step y) (left_after pick y) old new) (sym is) does
 
+-- the same of one that is complete
+pub completes_as : {T E : Type 0} (r : Result T E) (pick : Pick) (old new : Remains) (x e : Event) → x ≡ e → OnOk r (Redoes (step (completed e)) (left_after pick (completed e)) old new)
+    → OnOk r (Redoes (step (completed x)) (left_after pick (completed x)) old new)
+completes_as r pick old new x e is does = subst (λ y. OnOk r (Redoes (step (completed y)) (left_after pick (completed y)) old new)) (sym is) does
+
+pub completes_is : (pick : Pick) (old new : Remains) (x e : Event) → x ≡ e → Redoes (step (completed e)) (left_after pick (completed e)) old new → Redoes (step (completed x)) (left_after pick (completed x)) old new
+completes_is pick old new x e is does = subst (λ y. Redoes (step (completed y)) (left_after pick (completed y)) old new) (sym is) does
+
+-- the event that is stopped, where it counts as done
+pub redoes_last : {T E : Type 0} (r : Result T E) (pick : Pick) (old new : Remains) (e : Event) → counts_as_done pick e ≡ true → OnOk r (Redoes (step (completed e)) (left_after pick (completed e)) old new)
+    → OnOk r (RedoesAll pick (last_done pick e) old new)
+redoes_last r pick old new e done does = subst (λ b. OnOk r (RedoesAll pick (cond b (completed e ∷ []) []) old new)) (sym done) does
+
 -- after one event more
 pub follows_next : (pick : Pick) (old new : Remains) (es : List Event) (n : ℕ) (e : Event) → slice_get es n ≡ Some e → Redoes (step e) (left_after pick e) old new
     → Follows old (replay start (take n es)) (left_replay pick start start (take n es)) → Follows new (replay start (take (n + 1) es)) (left_replay pick start start (take (n + 1) es))
@@ -134,11 +147,24 @@ follows_next pick old new es n e there does was =
     (subst (λ a. Follows new a (left_replay pick start start (take n es ++ e ∷ []))) (sym (after_push start (take n es) e))
     (subst (λ l. Follows new (step e (replay start (take n es))) l) (sym (left_push pick (take n es) e start start)) (does (replay start (take n es)) (left_replay pick start start (take n es)) was)))
 
+replay_append : (es fs : List Event) (a : Account) → replay a (es ++ fs) ≡ replay (replay a es) fs
+replay_append [] fs a = refl
+replay_append (e ∷ es) fs a = replay_append es fs (step e a)
+
+left_append : (pick : Pick) (es fs : List Event) (a l : Account) → left_replay pick a l (es ++ fs) ≡ left_replay pick (replay a es) (left_replay pick a l es) fs
+left_append pick [] fs a l = refl
+left_append pick (e ∷ es) fs a l = left_append pick es fs (step e a) (left_after pick e a l)
+
+pub follows_all : (pick : Pick) (old new : Remains) (es fs : List Event) → RedoesAll pick fs old new → Follows old (replay start es) (left_replay pick start start es)
+    → Follows new (replay start (es ++ fs)) (left_replay pick start start (es ++ fs))
+follows_all pick old new es fs does was =
+    subst (λ a. Follows new a (left_replay pick start start (es ++ fs))) (sym (replay_append es fs start))
+    (subst (λ l. Follows new (replay (replay start es) fs) l) (sym (left_append pick es fs start start)) (does (replay start es) (left_replay pick start start es) was))
+
 -- a site that begins with what is left
-pub begins_within : {E : Type 0} (es : List Event) (number place end : ℕ) (e : Event) (pick : Pick) (remains : Remains) (told : List ℕ) (r : Result MemoryState E) → IsCallAt es number place e → end ≡ happened pick e place
-    → Follows remains (replay start (take end es)) (left_replay pick start start (take end es)) → told ≡ remains.told.items
+pub begins_within : {E : Type 0} (es : List Event) (number place : ℕ) (e : Event) (pick : Pick) (remains : Remains) (told : List ℕ) (r : Result MemoryState E) → IsCallAt es number place e
+    → Follows remains (replay start (happened pick es e place)) (left_at pick es e place) → told ≡ remains.told.items
     → IfOk r (λ s. HasContents remains.left (account_of s).files) → IfOk r (λ s. (account_of s).told ≡ told) → IfOk r (λ s. LeftWithin es number pick (account_of s))
-begins_within es number place end e pick remains told (Ok s) call ends follows told_is contents told_here =
-    let f = subst (λ (l : List Event). Follows remains (replay start l) (left_replay pick start start l)) (ap (λ n. take n es) ends) follows in
-    is_left_within es number place e pick (account_of s) call (λ q. sym (contents q) ∙ f.left q) (told_here ∙ told_is ∙ f.told)
-begins_within es number place end e pick remains told (Err x) call ends follows told_is contents told_here = tt
+begins_within es number place e pick remains told (Ok s) call follows told_is contents told_here =
+    is_left_within es number place e pick (account_of s) call (λ q. sym (contents q) ∙ follows.left q) (told_here ∙ told_is ∙ follows.told)
+begins_within es number place e pick remains told (Err x) call follows told_is contents told_here = tt

@@ -19,6 +19,7 @@ use Rattle.pg_disk.specs.Moments.{Elapses}
 use Rattle.pg_disk.specs.Recorded.{Recorded, Settled}
 use Rattle.pg_disk.specs.Replay.{start, replay, LeftSince, after_emit, if_done}
 use Rattle.pg_disk.proofs.Effects.{honest}
+use Rattle.pg_disk.proofs.CompleteLemmas.{completes, leaves_whole}
 use Rattle.pg_disk.proofs.EventLemmas.{calls_push, emits_push}
 use Rattle.pg_disk.proofs.PushLemmas.{after_event, elapses_same, elapses_to}
 
@@ -40,8 +41,10 @@ module _ (old new : List Event) (call : Option CallKind) (emit : Bool) (change :
   pub emits_after : count_by is_emit new ≡ count_by is_emit old + cond emit 1 0
   emits_after = ap (λ (es : List Event). count_by is_emit es) is.pushed ∙ emits_push old is.event ∙ ap (λ b. count_by is_emit old + cond b 1 0) is.is_emit
 
-  pub elapses_after : (within : Files → List ℕ → Type 0) → ((c : Files) (b : List ℕ) → Leaves (Some (change (replay start old))) c b → within c b) → Elapses (length old) (length new) (LeftSince old) (LeftSince new) within
-  elapses_after within here = elapses_to old new is.event within is.pushed (λ c b left. here c b (subst (λ a. Leaves (Some a) c b) (is.does (replay start old)) left))
+  pub elapses_after : (within : Files → List ℕ → Type 0) → ((c : Files) (b : List ℕ) → Leaves (Some (change (replay start old))) c b → within c b)
+      → ((c : Files) (b : List ℕ) → Leaves (Some (completes call change (replay start old))) c b → within c b) → Elapses (length old) (length new) (LeftSince old) (LeftSince new) within
+  elapses_after within here whole = elapses_to old new is.event within is.pushed (λ c b left. here c b (subst (λ a. Leaves (Some a) c b) (is.does (replay start old)) left))
+      (λ c b left. whole c b (leaves_whole old is.event call change is.is_call (is.does (replay start old)) c b left))
 
   pub changes_after : (R : Account → Account → Type 0) → R (replay start old) (change (replay start old)) → Changes (Some (replay start old)) (Some (replay start new)) R
   changes_after R one = record { kept = λ _. honest new; back = λ _. honest old; step = λ _. subst (λ a. R (replay start old) a) (sym account_after) one }
@@ -83,10 +86,11 @@ module _ {T : Type 0} (old new : List Event) (call : Option CallKind) (emit : Bo
       (λ e same rose. changes_same old new (S false) same none)
 
   pub settled_time : (within : Files → List ℕ → Type 0) → ((b : Bool) → replay start new ≡ change b (replay start old) → (c : Files) (t : List ℕ) → Leaves (Some (change b (replay start old))) c t → within c t)
+      → ((b : Bool) → replay start new ≡ change b (replay start old) → (c : Files) (t : List ℕ) → Leaves (Some (completes call (change b) (replay start old))) c t → within c t)
       → Elapses (length old) (length new) (LeftSince old) (LeftSince new) within
-  settled_time within here = by_cases (λ _. At done) (new ≡ old) outcome done f g s t result (λ r. Elapses (length old) (length new) (LeftSince old) (LeftSince new) within) recorded settled
-      (λ v is rec was same. elapses_after old new call emit (change done) rec within (here done (account_after old new call emit (change done) rec)))
-      (λ v e is rec was same. elapses_after old new call emit (change done) rec within (here done (account_after old new call emit (change done) rec)))
+  settled_time within here whole = by_cases (λ _. At done) (new ≡ old) outcome done f g s t result (λ r. Elapses (length old) (length new) (LeftSince old) (LeftSince new) within) recorded settled
+      (λ v is rec was same. elapses_after old new call emit (change done) rec within (here done (account_after old new call emit (change done) rec)) (whole done (account_after old new call emit (change done) rec)))
+      (λ v e is rec was same. elapses_after old new call emit (change done) rec within (here done (account_after old new call emit (change done) rec)) (whole done (account_after old new call emit (change done) rec)))
       (λ e same rose. elapses_none old new within same)
 
 -- what a record says of two sites

@@ -9,9 +9,9 @@ use Rattle.pg_disk.specs.Account.{FileState, Account, IsQuiet}
 use Rattle.pg_disk.specs.Contents.{content_at, HasContents}
 use Rattle.pg_disk.specs.Events.{call_of, is_emit}
 use Rattle.pg_disk.specs.Image.{Leaves}
-use Rattle.pg_disk.specs.Left.{left_at}
+use Rattle.pg_disk.specs.Left.{left_replay, left_at}
 use Rattle.pg_disk.specs.Reads.{reads}
-use Rattle.pg_disk.specs.Replay.{start, replay, LeftSince}
+use Rattle.pg_disk.specs.Replay.{start, step, completed, replay, LeftSince}
 
 -- the call of this number is the event at this place
 pub record IsCallAt (es : List Event) (number place : ℕ) (event : Event) : Type 0 where
@@ -29,6 +29,10 @@ pub record Follows (remains : Remains) (a l : Account) : Type 0 where
 abbrev pub Redoes : (Account → Account) → (Account → Account → Account) → Remains → Remains → Type 0
 Redoes change leave old new = (a l : Account) → Follows old a l → Follows new (change a) (leave a l)
 
+-- the same after all these events
+abbrev pub RedoesAll : Pick → List Event → Remains → Remains → Type 0
+RedoesAll pick es = Redoes (λ a. replay a es) (λ a l. left_replay pick a l es)
+
 -- a site at its beginning: nothing pending, and neither a call nor an emit
 pub record IsAtRest (es : List Event) : Type 0 where
   pub quiet : (f : FileId) (s : FileState) → get (replay start es).files f ≡ Some s → IsQuiet s
@@ -36,12 +40,12 @@ pub record IsAtRest (es : List Event) : Type 0 where
   pub emits : count_by is_emit es ≡ 0
 
 -- what is left where the site stops within its call of this number: what was told before it, and these files. They are
--- among what a crash may leave just before the call or just after it
+-- among what a crash may leave just before the call, or just after it where it is complete
 pub record LeftWithin (es : List Event) (number : ℕ) (pick : Pick) (new : Account) : Type 0 where
   pub place : ℕ
   pub event : Event
   pub call : IsCallAt es number place event
   pub told : new.told ≡ (replay start (take place es)).told
   pub contents : (f : FileId) → content_at new.files f ≡ content_at (left_at pick es event place).files f
-  pub left : Leaves (Some (replay start (take place es))) (reads new.files) new.told ⊎ Leaves (Some (replay start (take (place + 1) es))) (reads new.files) new.told
+  pub left : Leaves (Some (replay start (take place es))) (reads new.files) new.told ⊎ Leaves (Some (step (completed event) (replay start (take place es)))) (reads new.files) new.told
   pub since : LeftSince es place (reads new.files) new.told

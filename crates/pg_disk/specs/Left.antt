@@ -1,5 +1,5 @@
 -- What a crash leaves of the files, by what is to become of the bytes that are pending.
-use Rattle.std.specs.Prelude.{◌+◌, ℕ, Bool, true, false, List as Seq, [], ◌∷◌, length, replicate, take, Option, Some, None, if◌then◌else◌}
+use Rattle.std.specs.Prelude.{ℕ, Bool, true, false, List as Seq, [], ◌∷◌, ◌++◌, length, replicate, take, Option, Some, None, if◌then◌else◌}
 use Rattle.std.specs.FinMap.{get}
 use Rattle.pg_disk.specs.declared.file_id.FileId.{FileId}
 use Rattle.pg_disk.specs.declared.call_record.Event.{Event}
@@ -7,9 +7,9 @@ use Rattle.pg_disk.specs.declared.call_record.Event.TheVariants.{List, Length, R
 use Rattle.pg_disk.specs.declared.crash.Pick.{Pick}
 use Rattle.pg_disk.specs.declared.crash.Pick.TheVariants.{Old, New, Fill}
 use Rattle.pg_disk.specs.Account.{FileState, Account}
-use Rattle.pg_disk.specs.Replay.{step, start, if_done, after_write, after_create, after_remove, after_put}
+use Rattle.pg_disk.specs.Replay.{step, completed, start, if_done, after_write, after_create, after_remove, after_put}
 
--- what is left of a write: nothing, the write, or its range full of the byte
+-- what is left of a write: nothing, the write where it was done, or its range full of the byte
 abbrev pub left_of_write : Pick → FileId → ℕ → Seq ℕ → Bool → Account → Account
 left_of_write Old f at bytes done l = l
 left_of_write New f at bytes done l = after_write f at bytes done l
@@ -45,10 +45,14 @@ counts_as_done New e = true
 counts_as_done (Fill b) (Sync f done) = false
 counts_as_done (Fill b) e = true
 
--- how many events have happened, where the one at this place is stopped
-abbrev pub happened : Pick → Event → ℕ → ℕ
-happened pick e place = if counts_as_done pick e then place + 1 else place
+-- what has happened of the event that is stopped: nothing, or all that the call was to do, also where it was named to fail
+abbrev pub last_done : Pick → Event → Seq Event
+last_done pick e = if counts_as_done pick e then completed e ∷ [] else []
+
+-- what has happened, where the event at this place is stopped
+abbrev pub happened : Pick → Seq Event → Event → ℕ → Seq Event
+happened pick es e place = take place es ++ last_done pick e
 
 -- what is left of the files where the call at this place is stopped
 abbrev pub left_at : Pick → Seq Event → Event → ℕ → Account
-left_at pick es e place = left_replay pick start start (take (happened pick e place) es)
+left_at pick es e place = left_replay pick start start (happened pick es e place)

@@ -90,6 +90,13 @@ step (Emit bytes done) a = after_emit bytes.items done a
 step (Put f bytes) a = after_put f bytes.items a
 step (Told bytes) a = after_told bytes.items a
 
+-- the event as it is where the call is complete. A create, a removal and a write that failed may have been done all the same
+abbrev pub completed : Event → Event
+completed (Write f at bytes done) = Write f at bytes true
+completed (Create f done) = Create f true
+completed (Remove f done) = Remove f true
+completed e = e
+
 -- no files, nothing told and nothing taken
 abbrev pub start : Account
 start = record { files = empty; told = []; taken = 0 }
@@ -99,10 +106,10 @@ abbrev pub replay : Account → Seq Event → Account
 replay a [] = a
 replay a (e ∷ es) = replay (step e a) es
 
--- what a crash may leave at one of the moments of these events
+-- what a crash may leave at one of the moments of these events. Within an event it may be left as before, or complete
 abbrev pub LeftIn : Account → Seq Event → Files → Seq ℕ → Type 0
 LeftIn a [] c b = Leaves (Some a) c b
-LeftIn a (e ∷ es) c b = Leaves (Some a) c b ⊎ LeftIn (step e a) es c b
+LeftIn a (e ∷ es) c b = Leaves (Some a) c b ⊎ (Leaves (Some (step (completed e) a)) c b ⊎ LeftIn (step e a) es c b)
 
 -- what a crash may leave at one of the moments from t on. Each event is a moment
 abbrev pub LeftSince : Seq Event → ℕ → Files → Seq ℕ → Type 0

@@ -9,7 +9,7 @@ use Rattle.pg_disk.specs.Replay.{start, step, replay, LeftIn, LeftSince}
 -- the last moment is one of them
 last_in : (a : Account) (es : List Event) (c : Files) (b : List ℕ) → Leaves (Some (replay a es)) c b → LeftIn a es c b
 last_in a [] c b now = now
-last_in a (e ∷ es) c b now = inr (last_in (step e a) es c b now)
+last_in a (e ∷ es) c b now = inr (inr (last_in (step e a) es c b now))
 
 counts_from : (a : Account) (es : List Event) (t : ℕ) (c : Files) (b : List ℕ) → Leaves (Some (replay a es)) c b → LeftIn (replay a (take t es)) (drop t es) c b
 counts_from a es zero c b now = last_in a es c b now

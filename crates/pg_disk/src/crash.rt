@@ -21,7 +21,7 @@ use std::collections::BTreeMap;
 pub enum Pick {
     /// They are as at the file's last sync, and the file is as long as it was then.
     Old,
-    /// They are as they read.
+    /// They are as they read, and as they were to be written by a write that is stopped.
     New,
     /// Each of them is this byte, and the file has the greatest length since its last sync.
     Fill(u8),
@@ -37,9 +37,9 @@ pub(crate) struct Remains {
 }
 
 impl Remains {
-    ghost use Rattle.pg_disk.specs.Crash.{Redoes};
-    ghost use Rattle.pg_disk.specs.Left.{left_of_write, left_as_read, left_after};
-    ghost use Rattle.pg_disk.specs.Replay.{step};
+    ghost use Rattle.pg_disk.specs.Crash.{Redoes, RedoesAll};
+    ghost use Rattle.pg_disk.specs.Left.{left_of_write, left_as_read, left_after, last_done};
+    ghost use Rattle.pg_disk.specs.Replay.{step, completed};
     ghost use Rattle.std.specs.FinMap.{get};
 
     fn new(alloc: Global) -> Self
@@ -69,6 +69,31 @@ impl Remains {
             Event::Told(bytes) => self.tell(bytes, true),
             Event::Put(file, bytes) => self.put(*file, bytes),
             Event::List | Event::Length(_) | Event::Read(_, _) => Ok(()),
+        }
+    }
+
+    // Does the event that is stopped, where it counts as done.
+    fn stop_within(&mut self, event: &Event, pick: Pick) -> Result<(), AllocError>
+        ensures { OnOk result (RedoesAll pick (last_done pick event.now) self.old self.new) }
+    {
+        if !counts_as_done(pick, event) {
+            return Ok(());
+        }
+        self.complete(event, pick)
+    }
+
+    // Does once more what the event was to do, also where it failed.
+    fn complete(&mut self, event: &Event, pick: Pick) -> Result<(), AllocError>
+        ensures { OnOk result (Redoes (step (completed event.now)) (left_after pick (completed event.now)) self.old self.new) }
+    {
+        match event {
+            Event::Write(file, at, bytes, _) => self.write(*file, *at, bytes, true, pick),
+            Event::Create(file, _) => self.create(*file, true),
+            Event::Remove(file, _) => {
+                self.remove(*file, true);
+                Ok(())
+            }
+            _ => self.redo(event, pick),
         }
     }
 
@@ -174,12 +199,8 @@ pub(crate) fn left_within(
     ensures left { IfOk result (λ state. LeftWithin events.now number pick (account_of state)) }
 {
     let place = place_of_call(events, number);
-    let end = if counts_as_done(pick, &events[place]) {
-        place + 1
-    } else {
-        place
-    };
-    let remains = redone(alloc, &events[..end], pick)?;
+    let mut remains = redone(alloc, &events[..place], pick)?;
+    remains.stop_within(&events[place], pick)?;
     begun(alloc, remains.left, &remains.told)
 }
 

@@ -133,8 +133,8 @@ impl MemSite {
 
     /// The site as it is left where it stops within the call of this number, counted from 1: with nothing pending, no call
     /// or emit made, and nothing named to fail. The pick says what became of the bytes that were pending, those of a write
-    /// that is stopped among them. A create or a removal that is stopped has happened, but for `Pick::Old` and where it
-    /// was named to fail. A sync that is stopped has ended nothing.
+    /// that is stopped among them. A create or a removal that is stopped has happened, but for `Pick::Old`, also where
+    /// it was named to fail. A sync that is stopped has ended nothing.
     pub fn crash(&self, stop: u64, pick: Pick) -> Result<MemSite, AllocError>
         requires from_one { 0 < stop }
         requires made { stop ≤ length (calls_of self.now) }
@@ -462,14 +462,57 @@ mod tests {
         Ok(())
     }
 
+    // A create, a write and a removal that is named to fail: its number, what is told before it, what is left where it is
+    // stopped, and what where the listing behind it is.
+    const FAILED: [(u64, &str, [Option<&str>; 3], [Option<&str>; 3]); 3] = [
+        (1, "", [None, Some(""), Some("")], [None, None, None]),
+        (
+            5,
+            "xyz",
+            [Some("abcd"), Some("aXcYZ"), Some("a#c##")],
+            [Some("abcd"), Some("aXcd"), Some("a#c##")],
+        ),
+        (
+            7,
+            "xyz",
+            [Some("aXcYZ"), None, None],
+            [Some("aXcYZ"), Some("aXcYZ"), Some("aXcYZ")],
+        ),
+    ];
+
+    // The files that are made and written where the call of this number fails, and a listing behind it.
+    fn failed_and_listed(alloc: Global, call: u64) -> Result<MemSite, AllocError> {
+        let mut site = MemSite::new(alloc);
+        site.fail(&[call])?;
+        let _ = rewrite(&mut site);
+        let _ = site.list(alloc);
+        Ok(site)
+    }
+
+    // Whether these are left within the last call but one, which failed, and within the last.
+    fn leaves_last_two(
+        site: &MemSite,
+        told: &str,
+        failed: &[Option<&str>; 3],
+        listed: &[Option<&str>; 3],
+    ) -> Result<bool, AllocError> {
+        let last = site.calls();
+        if last < 2 {
+            return Ok(false);
+        }
+        Ok(leaves(site, last - 1, told, failed)? && leaves(site, last, told, listed)?)
+    }
+
     #[test]
-    fn crashes_where_a_write_failed(rt: HostRuntime) -> Result<(), Fail> {
-        let mut site = MemSite::new(rt.alloc());
-        site.fail(&[5])?;
-        assert!(rt; rewrite(&mut site).is_err());
-        assert_eq!(rt; site.calls(), 5);
-        let wants = [Some("abcd"), Some("aXcd"), Some("a#c##")];
-        assert!(rt; leaves(&site, 5, "xyz", &wants)?);
+    fn crashes_where_a_call_failed(rt: HostRuntime) -> Result<(), Fail> {
+        for (call, told, failed, listed) in FAILED.iter() {
+            let site = failed_and_listed(rt.alloc(), *call)?;
+            assert_eq!(rt; site.calls(), call.saturating_add(1));
+            assert!(rt;
+                leaves_last_two(&site, told, failed, listed)?,
+                "call {call}"
+            );
+        }
         Ok(())
     }
 }

@@ -7,5 +7,6 @@ pub mod Reading
 pub mod Scanning
 pub mod Sealing
 pub mod Stages
+pub mod Taking
 pub mod Unique
 pub mod Walking

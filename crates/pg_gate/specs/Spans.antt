@@ -1,5 +1,5 @@
 -- Where the payloads of a gated file stand, and how a file is read.
-use Rattle.std.specs.Prelude.{◌≡◌, ◌≢◌, ◌⊎◌, ◌≤◌, ◌<◌, ◌+◌, ◌^◌, ℕ, List, [], ◌∷◌, length, slice_index, Option, Some, None}
+use Rattle.std.specs.Prelude.{◌≡◌, ◌≢◌, ◌⊎◌, ◌≤◌, ◌<◌, ◌+◌, ◌-◌, ◌*◌, ◌^◌, ℕ, List, [], ◌∷◌, length, slice_index, sum_by, Option, Some, None}
 use Rattle.std.specs.FinMap.{get}
 use Rattle.std.specs.Int.{to_be_bytes, w64}
 use Rattle.pg_disk.specs.declared.fault.Fault.{Fault}
@@ -80,6 +80,25 @@ pub record ReadsAndChanges (id : FileId) (changes : Option FileState → Option 
   pub taken : new.taken ≡ old.taken + count
   pub others : (f : FileId) → f ≢ id → get new.files f ≡ get old.files f
   pub file : changes (get old.files id) (get new.files id)
+
+-- the bytes of the payloads, together
+abbrev pub payload_bytes : List Span → ℕ
+payload_bytes spans = sum_by (λ (span : Span). span.length) spans
+
+-- for each payload a gate and a length were read, at most, and as much once more; of these bytes no more were read than
+-- stand outside the payloads
+pub record ReadsGates (bytes : List ℕ) (spans : List Span) (old new : Account) : Type 0 where
+  pub gates : new.taken ≤ old.taken + 9 * (length spans + 1)
+  pub outside : new.taken + payload_bytes spans ≤ old.taken + length bytes
+
+-- no more bytes were read than these are
+abbrev pub ReadsWithin : List ℕ → Account → Account → Type 0
+ReadsWithin bytes old new = new.taken ≤ old.taken + length bytes
+
+-- the gate at this offset was read, and at most the length behind it
+pub record ReadsGateAt (bytes : List ℕ) (gate : ℕ) (old new : Account) : Type 0 where
+  pub few : new.taken ≤ old.taken + 9
+  pub within : new.taken ≤ old.taken + (length bytes - gate)
 
 -- a file of no bytes, or one open gate alone
 abbrev pub IsMendable : List ℕ → Type 0

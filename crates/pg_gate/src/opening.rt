@@ -1,5 +1,5 @@
 // A gated file is read anew, as after a crash.
-ghost use Rattle.std.specs.Prelude.{◌≡◌, ◌≤◌, ◌↔◌, ℕ, [], length, slice_index, IsTrue, IfOk, OnOk, IfErr};
+ghost use Rattle.std.specs.Prelude.{◌≡◌, ◌≤◌, ◌↔◌, ℕ, [], length, slice_index, IsTrue, IfOk, OnOk, IfErr, OnErr};
 ghost use Rattle.std.specs.FinMap.{get};
 ghost use Rattle.pg_disk.specs.Account.{account, IsHonest, IsQuiet};
 ghost use Rattle.pg_disk.specs.Calls.{Changes, Reads};
@@ -7,7 +7,7 @@ ghost use Rattle.pg_disk.specs.Counts.{CountsDisk, CountsFault};
 ghost use Rattle.pg_disk.specs.Image.{IsFileThere, Leaves, LeavesAt};
 ghost use Rattle.pg_disk.specs.Moments.{Within, WithinFrom};
 ghost use Rattle.pg_gate.specs.Gated.{HasBatches, RestsAt, file_of};
-ghost use Rattle.pg_gate.specs.Spans.{AsRead, IsCut, IsCutFault, IsNotSpent, IsScanned};
+ghost use Rattle.pg_gate.specs.Spans.{AsRead, IsCut, IsCutFault, IsNotSpent, IsScanned, ReadsGates, ReadsWithin};
 ghost use Rattle.pg_gate.specs.Spans.{ReadsAndChanges, StaysOrMends, KeepsAsRead, KeepsAtRest, IsShortOf, IsThereAtRest};
 
 use crate::gate::close;
@@ -21,6 +21,7 @@ fn begins_open<D: Disk>(disk: &mut D, file: FileId) -> Result<bool, Failed>
     requires { IsHonest (D.tells disk.old) → IsFileThere file (account (D.tells disk.old)).files }
     ensures first { IfOk result (λ opens. AsRead file (D.tells disk.old) (λ bytes. 1 ≤ length bytes → (IsTrue opens ↔ (slice_index bytes 0 ≡ 1)))) }
     ensures same { (n : ℕ) × Changes (D.tells disk.old) (D.tells disk.new) (Reads n) }
+    ensures taken { AsRead file (D.tells disk.old) (λ bytes. ReadsWithin bytes (account (D.tells disk.old)) (account (D.tells disk.new))) }
     ensures any_moment { Within D.moment D.left_since disk.old disk.new (Leaves (D.tells disk.old)) }
     ensures cause { CountsDisk (D.faults disk.old) (D.faults disk.new) result }
 {
@@ -34,6 +35,7 @@ fn mend<D: Disk>(disk: &mut D, file: FileId, end: u64) -> Result<(), Failed>
     requires { IsHonest (D.tells disk.old) → IsShortOf end (get (account (D.tells disk.old)).files file) }
     ensures rests { OnOk result (Changes (D.tells disk.old) (D.tells disk.new) (ReadsAndChanges file (λ _ t. RestsAt 0 [] t))) }
     ensures stays { Changes (D.tells disk.old) (D.tells disk.new) (ReadsAndChanges file StaysOrMends) }
+    ensures taken { AsRead file (D.tells disk.old) (λ bytes. ReadsWithin bytes (account (D.tells disk.old)) (account (D.tells disk.new))) }
     ensures any_moment { Within D.moment D.left_since disk.old disk.new
         (LeavesAt file (HasBatches []) (D.tells disk.old)) }
     ensures cause { CountsDisk (D.faults disk.old) (D.faults disk.new) result }
@@ -55,6 +57,10 @@ fn scan_synced<D: Disk>(
     ensures scanned { IfOk result (λ found. AsRead file (D.tells disk.old) (λ bytes.
         IsScanned bytes found.0 found.1.items (get (account (D.tells disk.new)).files file))) }
     ensures stays { Changes (D.tells disk.old) (D.tells disk.new) (ReadsAndChanges file StaysOrMends) }
+    ensures taken { IfOk result (λ found. AsRead file (D.tells disk.old) (λ bytes.
+        ReadsGates bytes found.1.items (account (D.tells disk.old)) (account (D.tells disk.new)))) }
+    ensures taken_err { OnErr result (AsRead file (D.tells disk.old) (λ bytes.
+        ReadsWithin bytes (account (D.tells disk.old)) (account (D.tells disk.new)))) }
     ensures any_moment { Within D.moment D.left_since disk.old disk.new
         (LeavesAt file
         (KeepsAsRead (get (account (D.tells disk.old)).files file))
@@ -74,7 +80,7 @@ fn scan_synced<D: Disk>(
 
 /// Reads a gated file anew: syncs it, mends it, and gives the file at rest with the places of the payloads of its
 /// counted batches, in their order. A file of no bytes gets a closed gate, and a file of one byte that is an open gate
-/// gets a closed one in its place. Nothing else is written. `Damaged` with the rule `Cut` and the gate's offset comes
+/// gets a closed one in its place. Nothing else is written, and no payload is read. `Damaged` with the rule `Cut` and the gate's offset comes
 /// where an open gate has no whole batch behind it. The other errors are that the disk failed and that there was no
 /// memory.
 pub fn scan<D: Disk>(alloc: Global, disk: &mut D, file: FileId) -> Result<(Rest, Vec<Span>), Fault>
@@ -83,6 +89,10 @@ pub fn scan<D: Disk>(alloc: Global, disk: &mut D, file: FileId) -> Result<(Rest,
     ensures scanned { IfOk result (λ found. AsRead file (D.tells disk.old) (λ bytes.
         IsScanned bytes found.0 found.1.items (get (account (D.tells disk.new)).files file))) }
     ensures stays { Changes (D.tells disk.old) (D.tells disk.new) (ReadsAndChanges file StaysOrMends) }
+    ensures taken { IfOk result (λ found. AsRead file (D.tells disk.old) (λ bytes.
+        ReadsGates bytes found.1.items (account (D.tells disk.old)) (account (D.tells disk.new)))) }
+    ensures taken_err { OnErr result (AsRead file (D.tells disk.old) (λ bytes.
+        ReadsWithin bytes (account (D.tells disk.old)) (account (D.tells disk.new)))) }
     ensures any_moment { Within D.moment D.left_since disk.old disk.new
         (LeavesAt file
         (KeepsAtRest (get (account (D.tells disk.old)).files file))

@@ -1,11 +1,11 @@
 // The places of the counted payloads, and the bytes of one.
-ghost use Rattle.std.specs.Prelude.{◌≡◌, ◌<◌, ◌-◌, ℕ, length, take, drop, IfOk, OnOk, IfErr};
+ghost use Rattle.std.specs.Prelude.{◌≡◌, ◌<◌, ◌-◌, ℕ, length, take, drop, IfOk, OnOk, IfErr, OnErr};
 ghost use Rattle.pg_disk.specs.Account.{account, IsHonest};
 ghost use Rattle.pg_disk.specs.Calls.{Changes, Reads};
 ghost use Rattle.pg_disk.specs.Counts.{CountsFault};
 ghost use Rattle.pg_disk.specs.Image.{IsFileThere, Leaves};
 ghost use Rattle.pg_disk.specs.Moments.{Within};
-ghost use Rattle.pg_gate.specs.Spans.{AsRead, HasSpans, IsCut, IsCutFault, IsNotSpent};
+ghost use Rattle.pg_gate.specs.Spans.{AsRead, HasSpans, IsCut, IsCutFault, IsNotSpent, ReadsGates, ReadsWithin};
 
 use crate::Span;
 use crate::spans::walk;
@@ -20,6 +20,10 @@ pub fn peek<D: Disk>(alloc: Global, disk: &mut D, file: FileId) -> Result<Vec<Sp
     requires { IsHonest (D.tells disk.old) → IsFileThere file (account (D.tells disk.old)).files }
     ensures places { IfOk result (λ spans. AsRead file (D.tells disk.old) (λ bytes. HasSpans bytes spans.items)) }
     ensures same { (n : ℕ) × Changes (D.tells disk.old) (D.tells disk.new) (Reads n) }
+    ensures taken { IfOk result (λ spans. AsRead file (D.tells disk.old) (λ bytes.
+        ReadsGates bytes spans.items (account (D.tells disk.old)) (account (D.tells disk.new)))) }
+    ensures taken_err { OnErr result (AsRead file (D.tells disk.old) (λ bytes.
+        ReadsWithin bytes (account (D.tells disk.old)) (account (D.tells disk.new)))) }
     ensures any_moment { Within D.moment D.left_since disk.old disk.new (Leaves (D.tells disk.old)) }
 
     ensures damaged { IfErr result (IsCutFault file (λ at. AsRead file (D.tells disk.old) (λ bytes. IsCut bytes at))) }

@@ -1,12 +1,12 @@
 // Where payloads stand, and the walk from gate to gate.
-ghost use Rattle.std.specs.Prelude.{◌≡◌, ◌<◌, ◌≤◌, ◌+◌, ◌-◌, ◌^◌, ℕ, length, take, drop, IfOk, IfErr, IfSome};
+ghost use Rattle.std.specs.Prelude.{◌≡◌, ◌<◌, ◌≤◌, ◌+◌, ◌-◌, ◌^◌, ℕ, length, take, drop, IfOk, IfErr, IfSome, OnErr};
 ghost use Rattle.std.specs.Int.{to_be_bytes, w64};
 ghost use Rattle.pg_disk.specs.Account.{account, IsHonest};
 ghost use Rattle.pg_disk.specs.Calls.{Changes, Reads};
 ghost use Rattle.pg_disk.specs.Counts.{CountsFault};
 ghost use Rattle.pg_disk.specs.Image.{IsFileThere, Leaves};
 ghost use Rattle.pg_disk.specs.Moments.{Within};
-ghost use Rattle.pg_gate.specs.Spans.{AsRead, IsNext, IsCutAt, IsWalked, IsCut, IsCutFault, IsNotSpent};
+ghost use Rattle.pg_gate.specs.Spans.{AsRead, IsNext, IsCutAt, IsWalked, IsCut, IsCutFault, IsNotSpent, ReadsGates, ReadsGateAt, ReadsWithin};
 
 use pg_bytes::take_u64;
 use pg_disk::{Damage, Disk, Fault, FileId, Rule};
@@ -41,6 +41,7 @@ fn next_span<D: Disk>(
     ensures next { IfOk result (λ next. AsRead file (D.tells disk.old) (λ bytes. end ≡ length bytes → IsNext bytes gate next)) }
     ensures in_file { IfOk result (λ next. IfSome next (λ span. (span.at ≡ gate + 9) × (span.at + span.length < end))) }
     ensures same { (n : ℕ) × Changes (D.tells disk.old) (D.tells disk.new) (Reads n) }
+    ensures taken { AsRead file (D.tells disk.old) (λ bytes. ReadsGateAt bytes gate (account (D.tells disk.old)) (account (D.tells disk.new))) }
     ensures any_moment { Within D.moment D.left_since disk.old disk.new (Leaves (D.tells disk.old)) }
     ensures damaged { IfErr result (IsCutFault file (λ at. (at ≡ gate) ×
         AsRead file (D.tells disk.old) (λ bytes. end ≡ length bytes → IsCutAt bytes gate))) }
@@ -79,6 +80,10 @@ pub(crate) fn walk<D: Disk>(
     ensures walked { IfOk result (λ found. AsRead file (D.tells disk.old) (λ bytes. end ≡ length bytes → IsWalked bytes found.1 found.0.items)) }
     ensures in_file { IfOk result (λ found. found.1 < end) }
     ensures same { (n : ℕ) × Changes (D.tells disk.old) (D.tells disk.new) (Reads n) }
+    ensures taken { IfOk result (λ found. AsRead file (D.tells disk.old) (λ bytes. end ≡ length bytes →
+        ReadsGates bytes found.0.items (account (D.tells disk.old)) (account (D.tells disk.new)))) }
+    ensures taken_err { OnErr result (AsRead file (D.tells disk.old) (λ bytes. end ≡ length bytes →
+        ReadsWithin bytes (account (D.tells disk.old)) (account (D.tells disk.new)))) }
     ensures any_moment { Within D.moment D.left_since disk.old disk.new (Leaves (D.tells disk.old)) }
     ensures damaged { IfErr result (IsCutFault file (λ at.
         AsRead file (D.tells disk.old) (λ bytes. end ≡ length bytes → IsCut bytes at))) }

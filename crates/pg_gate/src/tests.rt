@@ -4,7 +4,7 @@ ghost use Rattle.pg_disk.specs.Account.{account, IsHonest};
 ghost use Rattle.pg_disk.specs.Image.{IsFileThere};
 
 use super::*;
-use pg_disk::{Damage, Disk, Failed, Fault, FileId, Kind, MemSite, Pick, Rule};
+use pg_disk::{CallKind, Damage, Disk, Failed, Fault, FileId, Kind, MemSite, Pick, Rule};
 use std::alloc::{AllocError, Global};
 use std::test::Fail;
 
@@ -169,5 +169,57 @@ fn what_looks_like_a_batch_is_never_read(rt: HostRuntime) -> Result<(), Fail> {
             assert!(rt; leaves_hi_or_none(&site, stop, pick)?, "at call {stop}");
         }
     }
+    Ok(())
+}
+
+const BATCHES: u64 = 300;
+
+// The bytes of a gated file with these many batches of the payload.
+fn gated(alloc: Global, payload: &[u8]) -> Result<Vec<u8>, AllocError> {
+    let mut bytes = Vec::new(alloc);
+    for _ in 0..BATCHES {
+        bytes.push(1)?;
+        bytes.extend_from_slice(&(payload.len() as u64).to_be_bytes())?;
+        bytes.extend_from_slice(payload)?;
+    }
+    bytes.push(0)?;
+    Ok(bytes)
+}
+
+// How often the call was made, of those behind so many.
+fn count_behind(site: &MemSite, made: u64, call: CallKind) -> u64 {
+    let mut count: u64 = 0;
+    for n in made..site.calls() {
+        if site.call(n.saturating_add(1)) == Some(call) {
+            count = count.saturating_add(1);
+        }
+    }
+    count
+}
+
+// Whether one read for each batch and one more were made behind so many calls, with one call for the length, and so many
+// others, which are syncs.
+fn reads_gates(site: &MemSite, made: u64, syncs: u64) -> bool {
+    let reads = BATCHES.saturating_add(1);
+    let others = syncs.saturating_add(1);
+    count_behind(site, made, CallKind::Read(PAGE)) == reads
+        && count_behind(site, made, CallKind::Length(PAGE)) == 1
+        && count_behind(site, made, CallKind::Sync(PAGE)) == syncs
+        && site.calls().saturating_sub(made) == reads.saturating_add(others)
+}
+
+#[test]
+fn reads_no_payload(rt: HostRuntime) -> Result<(), Fail> {
+    let mut site = MemSite::new(rt.alloc());
+    let bytes = gated(rt.alloc(), &[1; 150])?;
+    make(&mut site, &bytes)?;
+    let made = site.calls();
+    let peeked = peek(rt.alloc(), &mut site, PAGE)?;
+    assert_eq!(rt; peeked.len() as u64, BATCHES);
+    assert!(rt; reads_gates(&site, made, 0));
+    let made = site.calls();
+    let (_, scanned) = scan(rt.alloc(), &mut site, PAGE)?;
+    assert!(rt; scanned == peeked);
+    assert!(rt; reads_gates(&site, made, 1));
     Ok(())
 }

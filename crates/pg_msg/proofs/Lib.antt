@@ -1,4 +1,5 @@
 pub mod CountedLoop
+mod Examples
 pub mod FieldLaws
 pub mod MessageLaws
 pub mod TestLaws

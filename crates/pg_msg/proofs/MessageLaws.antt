@@ -1,16 +1,15 @@
 -- Messages are read as they are spelled, and none is spelled as the front of another.
-use Rattle.std.proofs.Common.{◌≡◌, ◌≢◌, ℕ, zero, suc, ◌+◌, ◌-◌, ◌^◌, ◌<◌, ◌≤◌, Bool, true, false, cond, eqb, leb, List, [], ◌∷◌, ◌++◌, length, take, drop, get_or, Option, Some, None, ◌⊎◌, inl, inr, refl, sym, ap, subst, ◌∙◌, append_assoc, arith}
+use Rattle.std.proofs.Common.{◌≡◌, ◌≢◌, ℕ, zero, suc, ◌+◌, ◌-◌, ◌^◌, ◌<◌, ◌≤◌, true, cond, eqb, leb, List, [], ◌∷◌, ◌++◌, length, take, drop, Option, Some, None, inl, inr, refl, sym, ap, subst, ◌∙◌, append_assoc, arith}
 use Rattle.std.specs.Prelude.{IfSome}
 use Rattle.std.specs.Int.{w8, w32, w64, to_be_bytes, from_be_bytes}
-use Rattle.std.proofs.lemmas.Bool.{leb-true, le-leb, eqb-true, eqb-false, ne_eqb, cases_Bool}
+use Rattle.std.proofs.lemmas.Bool.{leb-true, le-leb, eqb-true, ne_eqb}
 use Rattle.std.proofs.lemmas.List.{nil_from_length, take_at, take-append-drop, length-append}
 use Rattle.std.proofs.lemmas.Option.{cond_some}
-use Rattle.pg_msg.specs.declared.message.MessageId.{MessageId}
 use Rattle.pg_msg.specs.declared.message.Body.{Body}
 use Rattle.pg_msg.specs.declared.message.Body.TheVariants.{Plain, Large}
 use Rattle.pg_msg.specs.declared.message.Message.{Message}
 use Rattle.pg_msg.specs.Messages.{id_bytes, dup_bytes, properties_bytes, kind_of, body_bytes, message_bytes, weight_of, IsDuplicateId, IsBody, IsMessage, SpellsMessage}
-use Rattle.pg_msg.specs.Reading.{◌>>=◌, guarded, number_at, octets_at, id_at, dup_at, properties_at, plain_at, part_at, body_of, message_at}
+use Rattle.pg_msg.specs.Reading.{guarded, number_at, octets_at, id_at, dup_at, properties_at, plain_at, part_at, body_of, message_at}
 use Rattle.pg_msg.proofs.FieldLaws.{IsBytes, IsBytes-take, Takes, Takes-then, bind_some, some_of, some_is, wide32, wide64, number_takes, number_again, byte_takes, byte_again, octets_takes, octets_again, id_takes, id_again}
 use Rattle.pg_msg.proofs.ValueLaws.{chosen, properties_takes, properties_again}
 

@@ -1,9 +1,9 @@
 -- The tests of a reader say what the definitions say.
-use Rattle.std.proofs.Common.{◌≡◌, ℕ, zero, suc, ◌+◌, ◌<◌, ◌≤◌, ◌||◌, ◌&&◌, not, Bool, true, false, List, [], ◌∷◌, Decides, length, get_or, map, refl, sym, ap, ◌∙◌, subst, leb, ltb, eqb, arith}
+use Rattle.std.proofs.Common.{◌≡◌, ℕ, zero, suc, ◌+◌, ◌<◌, ◌||◌, ◌&&◌, not, Bool, true, false, List, [], ◌∷◌, Decides, length, get_or, map, refl, sym, ap, ◌∙◌, subst, leb, ltb, eqb, arith}
 use Rattle.std.specs.Prelude.{All, slice_index}
 use Rattle.std.specs.Cmp.Lexicographic.{bytes_decides, nat_list_eq_equiv}
-use Rattle.std.specs.List.{list_all, list_any, Contains, AllAdjacentBelow, IsAllAdjacentAnswer}
-use Rattle.std.specs.Str.{IsUtf8, is_utf8, bytes_eq, str_to_ascii_lowercase}
+use Rattle.std.specs.List.{list_all, list_any, AllAdjacentBelow, IsAllAdjacentAnswer}
+use Rattle.std.specs.Str.{is_utf8, bytes_eq, str_to_ascii_lowercase}
 use Rattle.std.proofs.lemmas.Bool.{leb-true, le-leb, and_from, and_left, and_right}
 use Rattle.std.proofs.lemmas.Bool.Decides.{Decides-and, Decides-at, Decides-or, Decides-not, Decides-eqb, Decides-ltb, Decides-like, Decides-by_and}
 use Rattle.std.proofs.lemmas.List.Elements.{All-weaker}

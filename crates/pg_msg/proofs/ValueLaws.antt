@@ -1,8 +1,8 @@
 -- Values and properties are read as they are spelled.
-use Rattle.std.proofs.Common.{◌≡◌, ℕ, ℤ, zero, suc, ◌+◌, ◌^◌, ◌<◌, ◌≤◌, Bool, true, false, cond, eqb, leb, List, [], ◌∷◌, ◌++◌, length, map, Option, Some, None, ◌⊎◌, inl, inr, refl, sym, ap, subst, ◌∙◌, append_assoc, arith}
-use Rattle.std.specs.Prelude.{All, FitsSigned}
+use Rattle.std.proofs.Common.{◌≡◌, ℕ, ℤ, zero, suc, ◌^◌, ◌<◌, ◌≤◌, Bool, true, false, cond, eqb, leb, List, [], ◌∷◌, ◌++◌, length, map, Some, ◌⊎◌, inl, inr, refl, sym, ap, subst, ◌∙◌, append_assoc, arith}
+use Rattle.std.specs.Prelude.{FitsSigned}
 use Rattle.std.specs.Int.{w8, w16, w64, to_be_bytes, cast_signed, cast_unsigned}
-use Rattle.std.specs.Str.{IsUtf8, is_utf8}
+use Rattle.std.specs.Str.{IsUtf8}
 use Rattle.std.proofs.Math.Facts.{sfits_to_z, Fits-of_lt, Fits-of_z}
 use Rattle.std.proofs.lemmas.Bool.{leb-true, le-leb, eqb-true}
 use Rattle.std.proofs.lemmas.Int.{of_z-to_z, to_z-of_z}
@@ -13,7 +13,7 @@ use Rattle.pg_msg.specs.declared.properties.Value.{Value}
 use Rattle.pg_msg.specs.declared.properties.Value.TheVariants.{Text, Whole, Truth}
 use Rattle.pg_msg.specs.Names.{IsPropertyName}
 use Rattle.pg_msg.specs.Messages.{value_bytes, property_bytes, properties_bytes, IsValue, IsProperty, AreProperties}
-use Rattle.pg_msg.specs.Reading.{◌>>=◌, guarded, counted_at, number_at, octets_at, is_property_name, are_distinct, text_at, whole_at, truth_at, value_of, value_at, property_name_at, property_at, properties_at}
+use Rattle.pg_msg.specs.Reading.{guarded, counted_at, number_at, octets_at, text_at, whole_at, truth_at, value_of, value_at, property_name_at, property_at, properties_at}
 use Rattle.pg_msg.proofs.FieldLaws.{IsBytes, Takes, Takes-then, bind_some, some_is, wide16, wide64, number_takes, number_again, byte_takes, byte_again, octets_takes, octets_again, IsField, IsChain, counted_takes, counted_again}
 use Rattle.pg_msg.proofs.TestLaws.{property_name_decides, distinct_decides}
 

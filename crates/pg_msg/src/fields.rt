@@ -1,6 +1,8 @@
 //! The fields that messages and the journal's entries are spelled with, each written and read in one way.
 //!
-//! A writer appends the field. A reader takes it from the front of the bytes, and gives it with the bytes behind it.
+//! A writer appends the field. It fails only where there is no memory, and may leave a part of the field at the end then.
+//! A reader takes the field from the front of the bytes, and gives it with the bytes behind it.
+//! `docs/FORMATS.md` spells each field.
 
 mod lists;
 mod messages;

@@ -251,57 +251,60 @@ fn queues_to(alloc: Global, count: u16) -> Result<Vec<u8>, AllocError> {
     Ok(bytes)
 }
 
-const NO_NAMES: [&[u8]; 8] = [
-    b"",
-    b"\0",
-    b"\x02Q",
-    b"\x01.",
-    b"\x02-Q",
-    b"\x02Q/",
-    b"\x02Q\xff",
-    b"\x029Q",
+#[derive(Clone, Copy)]
+enum Field {
+    Name,
+    Queues,
+    Pages,
+}
+
+const REFUSED: [(Field, &[u8]); 17] = [
+    (Field::Name, b""),
+    (Field::Name, b"\0"),
+    (Field::Name, b"\x02Q"),
+    (Field::Name, b"\x01."),
+    (Field::Name, b"\x02-Q"),
+    (Field::Name, b"\x02Q/"),
+    (Field::Name, b"\x02Q\xff"),
+    (Field::Name, b"\x029Q"),
+    (Field::Queues, b"\0"),
+    (Field::Queues, b"\0\0"),
+    (Field::Queues, b"\0\x01\0\0\0"),
+    (Field::Queues, b"\0\x02\0\0\0\x01\0\0\0\x01"),
+    (Field::Queues, b"\0\x02\0\0\0\x02\0\0\0\x01"),
+    (Field::Pages, b"\0\0"),
+    (Field::Pages, b"\0\x01\0\0\0\x02\0\0\0\0\0\0\0\0"),
+    (Field::Pages, b"\0\x01\0\0\0\x02\0\0\0\0\0\0\0"),
+    (
+        Field::Pages,
+        b"\0\x02\0\0\0\x02\0\0\0\0\0\0\0\x01\0\0\0\x02\0\0\0\0\0\0\0\x01",
+    ),
 ];
 
-const NO_QUEUES: [&[u8]; 5] = [
-    b"\0",
-    b"\0\0",
-    b"\0\x01\0\0\0",
-    b"\0\x02\0\0\0\x01\0\0\0\x01",
-    b"\0\x02\0\0\0\x02\0\0\0\x01",
-];
-
-const NO_PAGES: [&[u8]; 4] = [
-    b"\0\0",
-    b"\0\x01\0\0\0\x02\0\0\0\0\0\0\0\0",
-    b"\0\x01\0\0\0\x02\0\0\0\0\0\0\0",
-    b"\0\x02\0\0\0\x02\0\0\0\0\0\0\0\x01\0\0\0\x02\0\0\0\0\0\0\0\x01",
-];
+fn why_refused(alloc: Global, field: Field, bytes: &[u8]) -> Option<Unread> {
+    match field {
+        Field::Name => read_name(alloc, bytes).err(),
+        Field::Queues => read_queue_ids(alloc, bytes).err(),
+        Field::Pages => read_pages(alloc, bytes).err(),
+    }
+}
 
 #[test]
 fn refuses_what_is_no_field(rt: HostRuntime) -> Result<(), Fail> {
     let alloc = rt.alloc();
-    for bytes in NO_NAMES {
+    for (field, bytes) in REFUSED {
         assert_eq!(rt;
-            read_name(alloc, bytes),
-            Err(Unread::Malformed),
+            why_refused(alloc, field, bytes),
+            Some(Unread::Malformed),
             "{bytes:?}"
         );
     }
-    for bytes in NO_QUEUES {
-        assert_eq!(rt;
-            read_queue_ids(alloc, bytes),
-            Err(Unread::Malformed),
-            "{bytes:?}"
-        );
-    }
-    for bytes in NO_PAGES {
-        assert_eq!(rt;
-            read_pages(alloc, bytes),
-            Err(Unread::Malformed),
-            "{bytes:?}"
-        );
-    }
-    assert!(rt; read_queue_ids(alloc, &queues_to(alloc, 1000)?).is_ok());
-    assert!(rt; read_queue_ids(alloc, &queues_to(alloc, 1001)?).is_err());
+    let most = queues_to(alloc, 1000)?;
+    assert_eq!(rt; why_refused(alloc, Field::Queues, &most), None);
+    let more = queues_to(alloc, 1001)?;
+    assert_eq!(rt;
+        why_refused(alloc, Field::Queues, &more),
+        Some(Unread::Malformed)
+    );
     Ok(())
 }

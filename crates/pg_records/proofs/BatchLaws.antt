@@ -1,5 +1,5 @@
 -- A list of entries that is read is the one that was spelled, and what was spelled is read again.
-use Rattle.std.proofs.Common.{◌≡◌, ℕ, zero, suc, ◌+◌, ◌-◌, ◌<◌, ◌≤◌, Bool, true, false, ◌==◌, List, [], ◌∷◌, ◌++◌, length, Option, Some, None, refl, sym, ap, subst, ◌∙◌, append_assoc, arith}
+use Rattle.std.proofs.Common.{◌≡◌, ℕ, zero, suc, ◌-◌, ◌<◌, ◌≤◌, true, false, ◌==◌, List, [], ◌∷◌, ◌++◌, length, Option, Some, None, refl, sym, ap, subst, ◌∙◌, append_assoc, arith}
 use Rattle.std.specs.Prelude.{◌≢◌}
 use Rattle.std.proofs.lemmas.Bool.{eqb-true}
 use Rattle.std.proofs.lemmas.List.{append-nil, nil_from_length}
@@ -7,9 +7,9 @@ use Rattle.std.proofs.lemmas.Option.{cond_some}
 use Rattle.pg_msg.specs.declared.fields.Unread.{Unread}
 use Rattle.pg_msg.specs.declared.fields.Unread.TheVariants as unread
 use Rattle.pg_msg.specs.Reading.{◌>>=◌, Misses}
-use Rattle.pg_msg.proofs.FieldLaws.{IsBytes, Takes, bind_some, some_is}
+use Rattle.pg_msg.proofs.FieldLaws.{IsBytes, bind_some, some_is}
 use Rattle.pg_records.specs.declared.entry.Entry.{Entry}
-use Rattle.pg_records.specs.Entries.{entry_bytes, batch_bytes, HasFields, HaveFields, SpellsBatch}
+use Rattle.pg_records.specs.Entries.{entry_bytes, batch_bytes, HaveFields, SpellsBatch}
 use Rattle.pg_records.specs.Reading.{entry_at, entries_at, is_some_list, batch_at}
 use Rattle.pg_records.proofs.EntryLaws.{entry_takes, entry_again, entry_shortens}
 

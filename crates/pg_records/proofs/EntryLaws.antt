@@ -1,5 +1,5 @@
 -- An entry that is read is the one that was spelled, and what was spelled is read again, whatever stands behind it.
-use Rattle.std.proofs.Common.{◌≡◌, ◌⊎◌, inl, inr, ℕ, ◌^◌, ◌<◌, ◌≤◌, Bool, true, false, cond, eqb, List, [], ◌∷◌, ◌++◌, length, Some, None, refl, sym, ap, subst, ◌∙◌, append_assoc, arith}
+use Rattle.std.proofs.Common.{◌≡◌, inl, inr, ℕ, ◌^◌, ◌<◌, ◌≤◌, cond, eqb, List, ◌∷◌, ◌++◌, length, Some, None, refl, sym, ap, subst, ◌∙◌, append_assoc, arith}
 use Rattle.std.specs.Int.{w8, w32, w64, to_be_bytes}
 use Rattle.std.proofs.lemmas.Bool.{eqb-true, leb-true, le-leb, cases_Bool, cond-true, cond-false}
 use Rattle.std.proofs.lemmas.List.{length-append}
@@ -8,7 +8,7 @@ use Rattle.pg_msg.specs.declared.message.Message.{Message}
 use Rattle.pg_msg.specs.declared.message.MessageId.{MessageId}
 use Rattle.pg_msg.specs.Lists.{queues_bytes, pages_bytes}
 use Rattle.pg_msg.specs.Messages.{id_bytes, message_bytes}
-use Rattle.pg_msg.specs.Reading.{Read, ◌>>=◌, number_at, positive_at, id_at, name_at, queues_at, pages_at, message_at}
+use Rattle.pg_msg.specs.Reading.{Read, number_at, positive_at, id_at, name_at, queues_at, pages_at, message_at}
 use Rattle.pg_msg.proofs.FieldLaws.{IsBytes, Takes, Takes-then, bind_some, some_is, wide32, wide64, number_takes, number_again, byte_takes, byte_again, positive_takes, positive_again, id_takes, id_again, name_takes, name_again, queues_takes, queues_again, pages_takes, pages_again}
 use Rattle.pg_msg.proofs.MessageLaws.{message_takes, message_again}
 use Rattle.pg_records.specs.declared.entry.Entry.{Entry}

@@ -1,11 +1,10 @@
 -- The fields of entries alone: one that is read is the one that was spelled, and what was spelled is read again.
-use Rattle.std.proofs.Common.{◌≡◌, ℕ, ◌^◌, ◌<◌, ◌≤◌, List, [], ◌∷◌, ◌++◌, length, Some, sym, ap, subst, ◌∙◌, append_assoc, refl, arith}
+use Rattle.std.proofs.Common.{◌≡◌, ℕ, ◌^◌, List, [], ◌∷◌, ◌++◌, length, Some, sym, ap, subst, ◌∙◌, append_assoc, refl, arith}
 use Rattle.std.specs.Int.{w8, w16, to_be_bytes}
-use Rattle.std.specs.Str.{is_utf8}
 use Rattle.std.proofs.lemmas.Option.{cond_some}
 use Rattle.std.proofs.lemmas.Str.{IsUtf8-from_is_utf8, is_utf8-from_IsUtf8}
 use Rattle.pg_msg.specs.Messages.{IsDuplicateId}
-use Rattle.pg_msg.specs.Reading.{◌>>=◌, number_at, octets_at}
+use Rattle.pg_msg.specs.Reading.{number_at, octets_at}
 use Rattle.pg_msg.proofs.TestLaws.{between_decides}
 use Rattle.pg_msg.proofs.FieldLaws.{IsBytes, Takes, Takes-then, bind_some, wide16, number_takes, number_again, byte_takes, byte_again, octets_takes, octets_again}
 use Rattle.pg_records.specs.Entries.{short_bytes, filter_bytes, IsFilterText}

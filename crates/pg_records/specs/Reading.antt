@@ -1,5 +1,5 @@
 -- Reading entries from left to right: an entry and the bytes behind it, or nothing where no entry is spelled there.
-use Rattle.std.specs.Prelude.{ℕ, zero, suc, Bool, true, false, ◌&&◌, List, [], ◌∷◌, length, Option, Some, None, nat_le, ◌==◌, if◌then◌else◌}
+use Rattle.std.specs.Prelude.{ℕ, zero, suc, Bool, true, false, List, [], ◌∷◌, length, Option, Some, None, nat_le, ◌==◌, if◌then◌else◌}
 use Rattle.std.specs.Int.{w8, w16, w32, w64}
 use Rattle.std.specs.Str.{is_utf8}
 use Rattle.pg_msg.specs.Reading.{Read, ◌>>=◌, guarded, is_between, number_at, positive_at, octets_at, id_at, name_at, queues_at, pages_at, message_at}

@@ -12,17 +12,17 @@ use Rattle.pg_disk.specs.Files.{Files}
 use Rattle.pg_disk.specs.Image.{Leaves, LeavesPrefix}
 use Rattle.pg_disk.specs.Moments.{Elapses, Within}
 use Rattle.pg_disk.proofs.Runs.{started, goes_on, weaker, then_run}
-use Rattle.pg_run.specs.declared.engine.Engine.{Engine}
-use Rattle.pg_run.specs.declared.msg.Command.{Command}
-use Rattle.pg_run.specs.declared.msg.Reply.{Reply}
+use Rattle.pg_msg.specs.declared.command.Command.{Command}
+use Rattle.pg_msg.specs.declared.reply.Reply.{Reply}
+use Rattle.pg_text.specs.Spelling.{ReadsAs}
+use Rattle.pg_text.specs.Replies.{reply_line, reply_bytes}
+use Rattle.pg_engine.specs.declared.engine.Engine.{Engine}
+use Rattle.pg_engine.specs.Broker.{Broker, Step, last_state}
+use Rattle.pg_engine.specs.Denotation.{Denotes}
+use Rattle.pg_engine.specs.Executed.{state_of, Owns, LeavesEither, StandsAt, Executes}
+use Rattle.pg_engine.proofs.Executing.{owned_denote}
 use Rattle.pg_run.specs.Answered.{Answers}
-use Rattle.pg_run.specs.Broker.{Broker, Step, last_state}
-use Rattle.pg_run.specs.Commands.{ReadsAs}
-use Rattle.pg_run.specs.Denotation.{Denotes}
-use Rattle.pg_run.specs.Executed.{state_of, Owns, LeavesEither, StandsAt, Executes}
-use Rattle.pg_run.specs.Replies.{reply_line, reply_bytes}
 use Rattle.pg_run.specs.Served.{Tells, LeavesBetween, Serves, ServesAll}
-use Rattle.pg_run.proofs.Executing.{owned_denote}
 use Rattle.pg_run.proofs.RunLemmas.{line_some, tells_all}
 
 -- of one reply nothing is told yet

@@ -11,23 +11,24 @@ use Rattle.pg_disk.specs.Account.{Account, account, IsHonest}
 use Rattle.pg_disk.specs.Files.{Files}
 use Rattle.pg_disk.specs.Image.{Leaves}
 use Rattle.pg_disk.specs.Reads.{TakesFrom}
-use Rattle.pg_run.specs.declared.engine.Engine.{Engine}
-use Rattle.pg_run.specs.declared.lines.LineReader.{LineReader}
-use Rattle.pg_run.specs.declared.lines.ReadError.{ReadError}
-use Rattle.pg_run.specs.declared.lines.ReadError.TheVariants as reading
-use Rattle.pg_run.specs.declared.msg.Command.{Command}
+use Rattle.pg_msg.specs.declared.command.Command.{Command}
+use Rattle.pg_lines.specs.declared.reader.LineReader.{LineReader}
+use Rattle.pg_lines.specs.declared.read_error.ReadError.{ReadError}
+use Rattle.pg_lines.specs.declared.read_error.ReadError.TheVariants as reading
+use Rattle.pg_lines.specs.Lines.{HaveNoLineEnd, ended, IsCut, lines_of, longest_line}
+use Rattle.pg_lines.specs.Reading.{pending_of, left_of, IsAtEnd, TookLine, StoppedReading}
+use Rattle.pg_lines.proofs.CutLemmas.{ended-push, HaveNoLineEnd-append, has_cut, cut_then, cut_last, cut_line, lines_of-some}
+use Rattle.pg_lines.proofs.LineLemmas.{TakesFrom-then}
+use Rattle.pg_text.specs.Spelling.{ReadsAs}
+use Rattle.pg_text.proofs.ReadingLemmas.{kept_reads}
+use Rattle.pg_engine.specs.declared.engine.Engine.{Engine}
+use Rattle.pg_engine.specs.Broker.{Broker}
+use Rattle.pg_engine.specs.Executed.{state_of, Owns, StandsAt, MeetsLimit}
 use Rattle.pg_run.specs.declared.run.Stop.{Stop}
 use Rattle.pg_run.specs.declared.run.Stop.TheVariants.{Site, Source}
 use Rattle.pg_run.specs.Answered.{IsPartOf}
-use Rattle.pg_run.specs.Broker.{Broker}
-use Rattle.pg_run.specs.Commands.{ReadsAs}
-use Rattle.pg_run.specs.Executed.{state_of, Owns, StandsAt, MeetsLimit}
-use Rattle.pg_run.specs.Lines.{HaveNoLineEnd, ended, IsCut, lines_of, longest_line}
 use Rattle.pg_run.specs.Ran.{IsInputServed, ReadsInput, Replies, Ran, status_of_stop, status_of}
-use Rattle.pg_run.specs.Reading.{pending_of, left_of, IsAtEnd, TookLine, StoppedReading}
 use Rattle.pg_run.specs.Served.{LeavesBetween, Serves, ServesAll}
-use Rattle.pg_run.proofs.CutLemmas.{ended-push, HaveNoLineEnd-append, has_cut, cut_then, cut_last, cut_line, lines_of-some, kept_reads}
-use Rattle.pg_run.proofs.LineLemmas.{TakesFrom-then}
 use Rattle.pg_run.proofs.Running.{none_served, kept_served, kept_begun, longer, as_run, reply_count, rests, all_then, run_more}
 
 -- nothing was read

@@ -1,20 +1,6 @@
 pub mod AnswerLemmas
-pub mod BatchLemmas
-pub mod CommandLemmas
-pub mod CutLemmas
 pub mod Ending
-mod Examples
-pub mod Executing
-pub mod JournalLemmas
-pub mod LineLemmas
-pub mod MessageLemmas
-pub mod NumeralLemmas
-pub mod OpeningLemmas
-pub mod ReadSoFar
-pub mod RouteLemmas
-pub mod StateLemmas
 pub mod RunLemmas
 pub mod Running
-pub mod WordLemmas
 pub mod ServingLemmas
 pub mod WordsLemmas

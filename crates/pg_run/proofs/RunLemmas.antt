@@ -5,12 +5,12 @@ use Rattle.std.proofs.Math.Seq.{take-append-add, drop-append-add, drop-length, t
 use Rattle.std.specs.FinMap.{get}
 use Rattle.pg_disk.specs.Account.{Account, account, IsHonest}
 use Rattle.pg_disk.specs.Files.{Files}
-use Rattle.pg_run.specs.declared.msg.Command.{Command}
-use Rattle.pg_run.specs.declared.msg.Reply.{Reply}
-use Rattle.pg_run.specs.Broker.{Broker, Run, last_state}
-use Rattle.pg_run.specs.Commands.{ReadAs}
-use Rattle.pg_run.specs.Denotation.{Denotes}
-use Rattle.pg_run.specs.Replies.{reply_text, reply_line, reply_bytes, BeginsNext}
+use Rattle.pg_msg.specs.declared.command.Command.{Command}
+use Rattle.pg_msg.specs.declared.reply.Reply.{Reply}
+use Rattle.pg_text.specs.Spelling.{ReadAs}
+use Rattle.pg_text.specs.Replies.{reply_text, reply_line, reply_bytes, BeginsNext}
+use Rattle.pg_engine.specs.Broker.{Broker, Run, last_state}
+use Rattle.pg_engine.specs.Denotation.{Denotes}
 use Rattle.pg_run.specs.Served.{Tells, LeavesBetween}
 
 pub pushed_some : (xs : List ℕ) (x : ℕ) → xs ++ (x ∷ []) ≢ []

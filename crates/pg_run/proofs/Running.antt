@@ -7,16 +7,16 @@ use Rattle.pg_disk.specs.Account.{Account, account, IsHonest}
 use Rattle.pg_disk.specs.Files.{Files}
 use Rattle.pg_disk.specs.Image.{Leaves, IsImage}
 use Rattle.pg_disk.proofs.Runs.{started, weaker, then_run}
-use Rattle.pg_run.specs.declared.engine.Engine.{Engine}
-use Rattle.pg_run.specs.declared.msg.Reply.{Reply}
-use Rattle.pg_run.specs.Broker.{Broker, Run, last_state}
-use Rattle.pg_run.specs.Denotation.{Denotes}
-use Rattle.pg_run.specs.Executed.{state_of, StandsAt}
-use Rattle.pg_run.specs.Lines.{longest_line}
-use Rattle.pg_run.specs.Replies.{reply_bytes, BeginsNext}
+use Rattle.pg_msg.specs.declared.reply.Reply.{Reply}
+use Rattle.pg_lines.specs.Lines.{longest_line}
+use Rattle.pg_text.specs.Replies.{reply_bytes, BeginsNext}
+use Rattle.pg_text.proofs.ReadingLemmas.{read_more, kept_one}
+use Rattle.pg_engine.specs.declared.engine.Engine.{Engine}
+use Rattle.pg_engine.specs.Broker.{Broker, Run, last_state}
+use Rattle.pg_engine.specs.Denotation.{Denotes}
+use Rattle.pg_engine.specs.Executed.{state_of, StandsAt}
+use Rattle.pg_engine.proofs.Executing.{owned_denote}
 use Rattle.pg_run.specs.Served.{LeavesBetween, Serves, ServesAll}
-use Rattle.pg_run.proofs.Executing.{owned_denote}
-use Rattle.pg_run.proofs.CutLemmas.{read_more, kept_one}
 use Rattle.pg_run.proofs.RunLemmas.{reply_bytes-append, tells_then, tells_all, last_state-append, run_then, run_lengths, read_then, between_more, between_then}
 
 module _ {D : Type 0} (moment : D → ℕ) (left_since : D → ℕ → Files → List ℕ → Type 0) (tells : D → Option Account) (first : Broker) (old : D) where

@@ -1,5 +1,4 @@
 -- A run that begins with opening.
-use Rattle.pg_disk.specs.Counts.{FaultCounts}
 use Rattle.std.proofs.Common.{◌≡◌, inl, inr, ⊎_elim, ℕ, List, [], ◌∷◌, ◌++◌, length, take, Option, Some, None, Ok, Err, refl, sym, ◌∙◌, ap, subst, arith, length-append}
 use Rattle.std.proofs.lemmas.List.{append-nil, take_all}
 use Rattle.std.specs.Option.{option_map}
@@ -7,6 +6,8 @@ use Rattle.std.specs.FinMap.{FinMap, get}
 use Rattle.pg_disk.specs.declared.fault.Fault.{Fault}
 use Rattle.pg_disk.specs.declared.fault.Fault.TheVariants as fault
 use Rattle.pg_disk.specs.declared.file_id.FileId.{FileId}
+use Rattle.pg_disk.specs.declared.fault.SiteFault.TheVariants as site
+use Rattle.pg_disk.specs.Counts.{FaultCounts}
 use Rattle.pg_disk.specs.Account.{FileState, Account, account, IsSound, IsHonest}
 use Rattle.pg_disk.specs.Files.{file_cmp, Files}
 use Rattle.pg_disk.specs.Image.{IsLeftAt, IsImage}
@@ -14,19 +15,18 @@ use Rattle.pg_disk.specs.Moments.{Within}
 use Rattle.pg_disk.specs.Reads.{reads}
 use Rattle.pg_disk.proofs.ReadLemmas.{get-reads}
 use Rattle.pg_disk.proofs.Runs.{weaker, then_run}
-use Rattle.pg_run.specs.declared.engine.Engine.{Engine}
-use Rattle.pg_run.specs.declared.msg.Reply.{Reply}
+use Rattle.pg_msg.specs.declared.reply.Reply.{Reply}
+use Rattle.pg_lines.specs.declared.read_error.ReadError.TheVariants as reading
+use Rattle.pg_lines.specs.Lines.{IsCut}
+use Rattle.pg_text.specs.Spelling.{ReadAs}
+use Rattle.pg_text.specs.Replies.{reply_line, reply_bytes, BeginsNext}
+use Rattle.pg_engine.specs.declared.engine.Engine.{Engine}
+use Rattle.pg_engine.specs.Broker.{Durable, Broker, fresh, opened_from, last_state}
+use Rattle.pg_engine.specs.Executed.{state_of, LeavesEither}
+use Rattle.pg_engine.specs.Opened.{HasFile, HasNoFile, Opens}
 use Rattle.pg_run.specs.declared.run.Stop.{Stop}
 use Rattle.pg_run.specs.declared.run.Stop.TheVariants.{Site, Source}
-use Rattle.pg_disk.specs.declared.fault.SiteFault.TheVariants as site
-use Rattle.pg_run.specs.declared.lines.ReadError.TheVariants as reading
-use Rattle.pg_run.specs.Broker.{Durable, Broker, fresh, opened_from, last_state}
-use Rattle.pg_run.specs.Commands.{ReadAs}
-use Rattle.pg_run.specs.Executed.{state_of, LeavesEither}
-use Rattle.pg_run.specs.Lines.{IsCut}
-use Rattle.pg_run.specs.Opened.{HasFile, HasNoFile, Opens}
 use Rattle.pg_run.specs.Ran.{IsInputServed, Replies, Ran, ServesInput, status_of_fault, StopCounts, IsDamagedStop, IsSpared, status_of_stop}
-use Rattle.pg_run.specs.Replies.{reply_line, reply_bytes, BeginsNext}
 use Rattle.pg_run.specs.Served.{Tells, IsBetween, LeavesBetween, LeavesRun}
 use Rattle.pg_run.proofs.Ending.{takes_nothing}
 use Rattle.pg_run.proofs.RunLemmas.{line_some, run_lengths}

@@ -9,20 +9,20 @@ use Rattle.pg_disk.specs.Counts.{FaultCounts, SiteFaultCountsAs, Rose, DiskFaile
 use Rattle.pg_disk.specs.Files.{Files}
 use Rattle.pg_disk.specs.Image.{IsImage}
 use Rattle.pg_disk.specs.Reads.{reads, TakesFrom}
-use Rattle.pg_run.specs.declared.engine.Engine.{Engine}
-use Rattle.pg_run.specs.declared.lines.ReadError.TheVariants as reading
-use Rattle.pg_run.specs.declared.msg.Command.{Command}
-use Rattle.pg_run.specs.declared.msg.Reply.{Reply}
+use Rattle.pg_msg.specs.declared.command.Command.{Command}
+use Rattle.pg_msg.specs.declared.reply.Reply.{Reply}
+use Rattle.pg_lines.specs.declared.read_error.ReadError.TheVariants as reading
+use Rattle.pg_lines.specs.Lines.{IsCut, lines_of}
+use Rattle.pg_lines.specs.Reading.{IsAtEnd, ReadErrorCounts}
+use Rattle.pg_text.specs.Spelling.{ReadsAs, ReadAs}
+use Rattle.pg_text.specs.Replies.{reply_bytes}
+use Rattle.pg_engine.specs.declared.engine.Engine.{Engine}
+use Rattle.pg_engine.specs.Broker.{Broker, Run, last_state}
+use Rattle.pg_engine.specs.Denotation.{Denotes}
+use Rattle.pg_engine.specs.Executed.{StandsAt, MeetsLimit}
+use Rattle.pg_engine.specs.Opened.{IsDamaged}
 use Rattle.pg_run.specs.declared.run.Stop.{Stop}
 use Rattle.pg_run.specs.declared.run.Stop.TheVariants.{Site, Source}
-use Rattle.pg_run.specs.Broker.{Broker, Run, last_state}
-use Rattle.pg_run.specs.Commands.{ReadsAs, ReadAs}
-use Rattle.pg_run.specs.Denotation.{Denotes}
-use Rattle.pg_run.specs.Executed.{StandsAt, MeetsLimit}
-use Rattle.pg_run.specs.Lines.{IsCut, lines_of}
-use Rattle.pg_run.specs.Opened.{IsDamaged}
-use Rattle.pg_run.specs.Reading.{IsAtEnd, ReadErrorCounts}
-use Rattle.pg_run.specs.Replies.{reply_bytes}
 use Rattle.pg_run.specs.Served.{Serves}
 
 -- the statuses of a run

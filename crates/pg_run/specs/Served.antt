@@ -4,14 +4,14 @@ use Rattle.std.specs.FinMap.{get}
 use Rattle.pg_disk.specs.Account.{Account, account, IsHonest}
 use Rattle.pg_disk.specs.Files.{Files}
 use Rattle.pg_disk.specs.Moments.{Within}
-use Rattle.pg_run.specs.declared.engine.Engine.{Engine}
-use Rattle.pg_run.specs.declared.msg.Command.{Command}
-use Rattle.pg_run.specs.declared.msg.Reply.{Reply}
-use Rattle.pg_run.specs.Broker.{Durable, Broker, Run, last_state}
-use Rattle.pg_run.specs.Commands.{ReadAs}
-use Rattle.pg_run.specs.Denotation.{Denotes}
-use Rattle.pg_run.specs.Executed.{StandsAt}
-use Rattle.pg_run.specs.Replies.{reply_bytes, BeginsNext}
+use Rattle.pg_msg.specs.declared.command.Command.{Command}
+use Rattle.pg_msg.specs.declared.reply.Reply.{Reply}
+use Rattle.pg_text.specs.Spelling.{ReadAs}
+use Rattle.pg_text.specs.Replies.{reply_bytes, BeginsNext}
+use Rattle.pg_engine.specs.declared.engine.Engine.{Engine}
+use Rattle.pg_engine.specs.Broker.{Durable, Broker, Run, last_state}
+use Rattle.pg_engine.specs.Denotation.{Denotes}
+use Rattle.pg_engine.specs.Executed.{StandsAt}
 
 -- the first n replies are told whole, and of the next one a part that isn't the whole
 pub record Tells (replies : List Reply) (n : ℕ) (told : List ℕ) : Type 0 where

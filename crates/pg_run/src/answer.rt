@@ -1,19 +1,21 @@
 // One line: it is executed, and its reply is told.
-ghost use Rattle.std.specs.Prelude.{◌≡◌, Option, Some, is_ok, IfErr, IsErrOf};
+ghost use Rattle.std.specs.Prelude.{◌≡◌, ◌⊎◌, Option, Some, is_ok, IsErr, IfOk, IfErr, IsErrOf};
 ghost use Rattle.pg_disk.specs.Account.{account, IsHonest};
 ghost use Rattle.pg_disk.specs.Calls.{Changes, Emits};
-ghost use Rattle.pg_disk.specs.Counts.{CountsSiteFault};
+ghost use Rattle.pg_disk.specs.Counts.{CountsFault, CountsSiteFault};
 ghost use Rattle.pg_disk.specs.Image.{LeavesPrefix};
 ghost use Rattle.pg_disk.specs.Moments.{Within};
-ghost use Rattle.pg_run.specs.declared.msg.Command.{Command};
+ghost use Rattle.pg_msg.specs.declared.command.Command.{Command};
+ghost use Rattle.pg_msg.specs.Replies.{IsBuilt};
+ghost use Rattle.pg_text.specs.Spelling.{ReadsAs};
+ghost use Rattle.pg_engine.specs.Executed.{Owns, Executes, MeetsLimit, state_of};
+ghost use Rattle.pg_engine.specs.Opened.{IsDamaged};
 ghost use Rattle.pg_run.specs.Answered.{Answers, IsDamagedSite};
-ghost use Rattle.pg_run.specs.Commands.{ReadsAs};
-ghost use Rattle.pg_run.specs.Executed.{Owns, MeetsLimit, state_of};
 
-use crate::engine::Engine;
-use crate::msg::Reply;
-use crate::text::render;
-use pg_disk::{Fault, Site, SiteFault};
+use pg_disk::{Disk, Fault, Site, SiteFault};
+use pg_engine::Engine;
+use pg_msg::{Refusal, Reply};
+use pg_text::{parse_line, render};
 use std::alloc::Global;
 
 /// Executes a line, and tells its reply. What the line changed is on the disk before a byte of the reply is told.
@@ -31,10 +33,34 @@ pub fn answer<S: Site>(
     ensures limit { IsErrOf result (SiteFault.Disk Fault.Spent) → (command : Command) × ReadsAs line.now (Some command) × MeetsLimit engine command }
     ensures cause { CountsSiteFault (S.faults site.old) (S.faults site.new) result }
 {
-    let (engine, reply) = engine.exec_line(alloc, site, line)?;
+    let (engine, reply) = exec_line(alloc, engine, site, line)?;
     let text = render(alloc, reply)?;
     tell(site, text.as_slice())?;
     Ok(engine)
+}
+
+// Executes the command that the line spells. A line that spells none is refused. A fault may come before anything is
+// executed.
+fn exec_line<D: Disk>(
+    alloc: Global,
+    engine: Engine,
+    disk: &mut D,
+    line: &[u8],
+) -> Result<(Engine, Reply), Fault>
+    requires { IsHonest (D.tells disk.old) → Owns engine (account (D.tells disk.old)).files }
+    ensures executes { IsHonest (D.tells disk.old) → (IsErr result × (disk.new ≡ disk.old))
+        ⊎ ((item : Option Command) × ReadsAs line.now item × Executes D.moment D.left_since D.tells (state_of engine) item disk.old disk.new result) }
+    ensures built { IfOk result (λ done. IsBuilt done.1) }
+    ensures back { IsHonest (D.tells disk.new) → IsHonest (D.tells disk.old) }
+    ensures never_damaged { IfErr result (λ fault. IsDamaged fault → ⊥) }
+    ensures untouched { IsErrOf result Fault.Spent → disk.new ≡ disk.old }
+    ensures limit { IsErrOf result Fault.Spent → (command : Command) × ReadsAs line.now (Some command) × MeetsLimit engine command }
+    ensures cause { CountsFault (D.faults disk.old) (D.faults disk.new) result }
+{
+    match parse_line(alloc, line)? {
+        Some(command) => engine.exec(alloc, disk, command),
+        None => Ok((engine, Reply::No(Refusal::Line))),
+    }
 }
 
 // Tells a reply's line, all at once.

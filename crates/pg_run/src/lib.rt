@@ -2,18 +2,10 @@
 #![tactic(auto)]
 
 mod answer;
-mod engine;
-mod lines;
-mod msg;
-mod opening;
 mod program;
-mod records;
-mod routes;
 mod run;
 mod serving;
-mod state;
-mod text;
 
-pub use msg::{LIMITS, Limits};
+pub use pg_msg::{LIMITS, Limits};
 pub use program::pagebroker;
 pub use serving::serve;

@@ -2,15 +2,15 @@
 ghost use Rattle.std.specs.Prelude.{◌≡◌, ◌≢◌, ◌⊎◌, ◌↔◌, List, ℕ, Some, [], ◌∷◌, IsTrue, map, string_bytes};
 ghost use Rattle.pg_disk.specs.Account.{account, IsHonest};
 ghost use Rattle.pg_disk.specs.Calls.{Changes, Reads};
-ghost use Rattle.pg_run.specs.Broker.{fresh, opened_from};
-ghost use Rattle.pg_run.specs.Opened.{HasFile, HasNoFile};
+ghost use Rattle.pg_engine.specs.Broker.{fresh, opened_from};
+ghost use Rattle.pg_engine.specs.Opened.{HasFile, HasNoFile};
 ghost use Rattle.pg_run.specs.ProgramWords.{AreRunWords, IsDirectory};
 ghost use Rattle.pg_run.specs.Ran.{Ran, ServesInput, CountsStatus, IsProgramStatus, IsAnyBut, IsSpared};
 ghost use Rattle.pg_run.specs.Served.{LeavesRun};
 
-use crate::msg::LIMITS;
 use crate::serving::serve;
 use pg_disk::{Site, Source};
+use pg_msg::LIMITS;
 use std::alloc::Global;
 
 /// The status of words that aren't accepted.

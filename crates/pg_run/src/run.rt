@@ -1,14 +1,14 @@
 // The command `run`: line after line is answered, until the input ends.
 ghost use Rattle.std.specs.Prelude.{◌≡◌, IfErr};
 ghost use Rattle.pg_disk.specs.Account.{account, IsHonest};
-ghost use Rattle.pg_run.specs.Executed.{Owns, state_of};
+ghost use Rattle.pg_engine.specs.Executed.{Owns, state_of};
 ghost use Rattle.pg_run.specs.Ran.{Ran, status_of, CountsStop, IsDamagedStop};
 ghost use Rattle.pg_run.specs.Served.{LeavesBetween};
 
 use crate::answer::answer;
-use crate::engine::Engine;
-use crate::lines::{LineReader, ReadError};
 use pg_disk::{Fault, Site, SiteFault, Source};
+use pg_engine::Engine;
+use pg_lines::{LineReader, ReadError};
 use std::alloc::{AllocError, Global};
 
 /// Why a run ended before its input did.

@@ -2,16 +2,16 @@
 ghost use Rattle.std.specs.Prelude.{◌≡◌, ◌⊎◌, ◌≤◌, ◌<◌, List, ℕ, Some, [], ◌∷◌, IfErr};
 ghost use Rattle.pg_disk.specs.Account.{account, IsHonest};
 ghost use Rattle.pg_disk.specs.Calls.{Changes, Reads};
-ghost use Rattle.pg_run.specs.Broker.{fresh, opened_from};
-ghost use Rattle.pg_run.specs.Opened.{HasFile, HasNoFile};
+ghost use Rattle.pg_engine.specs.Broker.{fresh, opened_from};
+ghost use Rattle.pg_engine.specs.Opened.{HasFile, HasNoFile};
 ghost use Rattle.pg_run.specs.Ran.{Ran, ServesInput, status_of, status_of_stop, CountsStop, CountsStatus, IsDamagedStop, IsStatus, IsAnyBut, IsSpared};
 ghost use Rattle.pg_run.specs.Served.{LeavesRun};
 
-use crate::lines::ReadError;
-use crate::msg::Limits;
-use crate::opening::open;
 use crate::run::{Stop, answer_lines};
 use pg_disk::{Fault, Site, SiteFault, Source};
+use pg_engine::open;
+use pg_lines::ReadError;
+use pg_msg::Limits;
 use std::alloc::Global;
 
 /// The command `run`: opens the broker, executes the lines of the source in order, and tells each reply once its line's

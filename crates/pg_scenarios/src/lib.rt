@@ -8,6 +8,8 @@ mod crashes;
 #[cfg(test)]
 mod failing;
 #[cfg(test)]
+mod full_counts;
+#[cfg(test)]
 mod messages;
 #[cfg(test)]
 mod scripts;

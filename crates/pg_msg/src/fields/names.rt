@@ -18,7 +18,7 @@ const RESERVED: [&str; 11] = [
     "and", "or", "not", "between", "in", "like", "escape", "is", "null", "true", "false",
 ];
 
-/// A name, behind its length in one byte.
+/// A name as an address or a queue has it, behind its length in one byte.
 #[tactic(auto, unfolding(crate::specs::Reading::name_at))]
 pub fn read_name(alloc: Global, bytes: &[u8]) -> Result<(Text, &[u8]), Unread>
     ensures { Gives (λ read. (read.0, read.1.now)) result (name_at bytes.now) }

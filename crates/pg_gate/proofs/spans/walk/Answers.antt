@@ -3,6 +3,8 @@ use Rattle.std.proofs.lemmas.Result.{err_from_is_err_and}
 use Rattle.pg_gate.specs.Spans.{AsRead, IsCut, IsWholeAt, IsNext, IsSoFar}
 use Rattle.pg_gate.specs.declared.spans.Span.{Span}
 use Rattle.pg_gate.proofs.Reading.{reads_then, run_reads, cut_weaker}
+use Rattle.pg_disk.specs.Account.{account}
+use Rattle.pg_gate.proofs.Taking.{StandsBehind, ReadsSpans, behind_more, spans_more, gates_read, gates_within}
 use Rattle.pg_gate.proofs.CutWalk.{cut_now, more_now}
 use Rattle.pg_gate.proofs.spans.walk.Goals as goal
 
@@ -37,6 +39,9 @@ gates-preserved g c =
       same = reads_then (g.D.Disk.tells c.args.disk.now) (g.D.Disk.tells c.gates.disk) (g.D.Disk.tells c.next_span.new.disk) c.gates.invariant.count c.next_span.ensures.same.0 c.gates.invariant.same c.next_span.ensures.same.1;
       run = run_reads g.D.Disk.moment g.D.Disk.left_since g.D.Disk.tells c.args.disk.now c.gates.disk c.next_span.new.disk c.gates.invariant.count c.gates.invariant.same c.gates.invariant.run c.next_span.ensures.any_moment;
       faults = c.in_ok-span.ensures.cause ∙ c.gates.invariant.faults;
+      place = subst (λ (l : List Span). StandsBehind l (c.in-Some.span.at + c.in-Some.span.length)) (sym pushed) (behind_more c.gates.spans.items c.in-Some.span c.gates.gate c.gates.invariant.place in_file.0);
+      taken = subst (λ (l : List Span). AsRead c.args.file (g.D.Disk.tells c.args.disk.now) (λ _. ReadsSpans l (account (g.D.Disk.tells c.args.disk.now)) (account (g.D.Disk.tells c.next_span.new.disk)))) (sym pushed)
+          (spans_more c.args.file (g.D.Disk.tells c.args.disk.now) (g.D.Disk.tells c.gates.disk) (g.D.Disk.tells c.next_span.new.disk) c.gates.invariant.count c.gates.gate c.gates.spans.items c.in-Some.span c.gates.invariant.same c.gates.invariant.taken c.next_span.ensures.taken);
       so_far = λ honest s there end_is. subst (λ (l : List Span). IsSoFar s.bytes (c.in-Some.span.at + c.in-Some.span.length) l) (sym pushed)
           (more_now c.args.file (g.D.Disk.tells c.args.disk.now) (g.D.Disk.tells c.gates.disk) c.gates.invariant.count c.gates.gate c.args.end c.gates.spans.items c.gates.invariant.same c.gates.invariant.so_far c.in-Some.span in_file.0 next honest s there end_is);
     }
@@ -46,3 +51,14 @@ returns-clause-same g c = (
   c.gates.invariant.count + c.next_span.ensures.same.0,
   reads_then (g.D.Disk.tells c.args.disk.now) (g.D.Disk.tells c.gates.disk) (g.D.Disk.tells c.next_span.new.disk) c.gates.invariant.count c.next_span.ensures.same.0 c.gates.invariant.same c.next_span.ensures.same.1,
 )
+
+pub returns-in_err-span-clause-taken_err : goal.returns-in_err-span-clause-taken_err
+returns-in_err-span-clause-taken_err g c = gates_within c.from_residual.result c.args.file (g.D.Disk.tells c.args.disk.now) (g.D.Disk.tells c.next_span.new.disk) c.args.end c.gates.spans.items
+    (gates_read c.args.file (g.D.Disk.tells c.args.disk.now) (g.D.Disk.tells c.gates.disk) (g.D.Disk.tells c.next_span.new.disk) c.gates.invariant.count c.gates.gate c.args.end c.gates.spans.items c.gates.invariant.same c.gates.invariant.place c.gates.invariant.within c.gates.invariant.taken c.next_span.ensures.taken)
+
+pub returns-in_err-map_err-clause-taken_err : goal.returns-in_err-map_err-clause-taken_err
+returns-in_err-map_err-clause-taken_err g c = gates_within c.from_residual-in_err-map_err.result c.args.file (g.D.Disk.tells c.args.disk.now) (g.D.Disk.tells c.next_span.new.disk) c.args.end c.gates.spans.items
+    (gates_read c.args.file (g.D.Disk.tells c.args.disk.now) (g.D.Disk.tells c.gates.disk) (g.D.Disk.tells c.next_span.new.disk) c.gates.invariant.count c.gates.gate c.args.end c.gates.spans.items c.gates.invariant.same c.gates.invariant.place c.gates.invariant.within c.gates.invariant.taken c.next_span.ensures.taken)
+
+pub returns-clause-taken : goal.returns-clause-taken
+returns-clause-taken g c = gates_read c.args.file (g.D.Disk.tells c.args.disk.now) (g.D.Disk.tells c.gates.disk) (g.D.Disk.tells c.next_span.new.disk) c.gates.invariant.count c.gates.gate c.args.end c.gates.spans.items c.gates.invariant.same c.gates.invariant.place c.gates.invariant.within c.gates.invariant.taken c.next_span.ensures.taken

@@ -1,10 +1,10 @@
 use Rattle.std.proofs.Common.{List, ℕ, ◌≡◌, ◌∙◌, true, refl, rules, subst}
 use Rattle.std.specs.Prelude.{is_ok}
-use Rattle.pg_run.specs.Replies.{reply_line}
 use Rattle.pg_disk.specs.Calls.{Changes, Emits}
 use Rattle.pg_disk.specs.Image.{LeavesPrefix}
 use Rattle.pg_disk.specs.Moments.{Within}
-use Rattle.pg_run.specs.Executed.{state_of}
+use Rattle.pg_text.specs.Replies.{reply_line}
+use Rattle.pg_engine.specs.Executed.{state_of}
 use Rattle.pg_run.proofs.AnswerLemmas.{answers_err, answers_sink, gave_up, executed, interrupted, half_told, answered}
 use Rattle.pg_run.proofs.answer.answer.Goals as goal
 

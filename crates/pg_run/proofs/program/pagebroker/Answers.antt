@@ -1,7 +1,7 @@
 use Rattle.std.proofs.Common.{◌≤◌, arith}
 use Rattle.pg_disk.specs.Account.{account, IsHonest}
-use Rattle.pg_run.specs.Broker.{fresh, opened_from}
-use Rattle.pg_run.specs.Opened.{HasNoFile}
+use Rattle.pg_engine.specs.Broker.{fresh, opened_from}
+use Rattle.pg_engine.specs.Opened.{HasNoFile}
 use Rattle.pg_run.specs.Served.{LeavesRun}
 use Rattle.pg_run.proofs.ServingLemmas.{always_opened}
 use Rattle.pg_run.proofs.program.pagebroker.Goals as goal

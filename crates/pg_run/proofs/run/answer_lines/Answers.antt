@@ -1,14 +1,14 @@
 use Rattle.std.proofs.Common.{ℕ, List, [], ◌∷◌, Bool, Some, Err, refl, ap, subst, ◌∙◌}
-use Rattle.pg_disk.specs.Account.{IsHonest}
 use Rattle.pg_disk.specs.declared.fault.Fault.TheVariants.{Memory}
 use Rattle.pg_disk.specs.declared.fault.SiteFault.TheVariants.{Disk}
+use Rattle.pg_disk.specs.Account.{IsHonest}
+use Rattle.pg_msg.specs.declared.command.Command.{Command}
+use Rattle.pg_lines.specs.Reading.{TookLine}
+use Rattle.pg_text.specs.Spelling.{ReadsAs}
+use Rattle.pg_engine.specs.Executed.{MeetsLimit, state_of}
 use Rattle.pg_run.specs.declared.run.Stop.TheVariants.{Site, Source}
-use Rattle.pg_run.specs.declared.msg.Command.{Command}
 use Rattle.pg_run.specs.Answered.{IsPartOf}
-use Rattle.pg_run.specs.Commands.{ReadsAs}
-use Rattle.pg_run.specs.Executed.{MeetsLimit, state_of}
 use Rattle.pg_run.specs.Ran.{Ran}
-use Rattle.pg_run.specs.Reading.{TookLine}
 use Rattle.pg_run.specs.Served.{LeavesBetween, Serves, ServesAll}
 use Rattle.pg_run.proofs.Ending.{so_far_first, one_more, no_reader, stopped_reading, broken_line, broken_last, owns_now, ended_empty, ended_served, status_err, some_line, no_line}
 use Rattle.pg_run.proofs.run.answer_lines.Goals as goal

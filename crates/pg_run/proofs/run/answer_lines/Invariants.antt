@@ -1,6 +1,6 @@
 use Rattle.std.proofs.Common.{◌≡◌, ◌+◌, length}
-use Rattle.pg_run.specs.Executed.{state_of}
-use Rattle.pg_run.specs.Reading.{pending_of, left_of}
+use Rattle.pg_lines.specs.Reading.{pending_of, left_of}
+use Rattle.pg_engine.specs.Executed.{state_of}
 use Rattle.pg_run.proofs.Ending.{SoFar}
 use Rattle.pg_run.proofs.run.answer_lines.Given as goal
 

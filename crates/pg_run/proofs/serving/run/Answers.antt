@@ -1,9 +1,9 @@
 use Rattle.std.proofs.Common.{ℕ, ◌≤◌, Err, ap, subst}
-use Rattle.pg_disk.specs.Account.{account, IsHonest}
 use Rattle.pg_disk.specs.declared.fault.SiteFault.TheVariants.{Disk}
+use Rattle.pg_disk.specs.Account.{account, IsHonest}
+use Rattle.pg_engine.specs.Broker.{fresh, opened_from}
+use Rattle.pg_engine.specs.Opened.{HasNoFile}
 use Rattle.pg_run.specs.declared.run.Stop.TheVariants.{Site}
-use Rattle.pg_run.specs.Broker.{fresh, opened_from}
-use Rattle.pg_run.specs.Opened.{HasNoFile}
 use Rattle.pg_run.specs.Ran.{Ran, status_of}
 use Rattle.pg_run.specs.Served.{LeavesRun}
 use Rattle.pg_run.proofs.Ending.{status_err}

@@ -1,7 +1,7 @@
 use Rattle.std.proofs.Common.{inr, ◌∙◌, arith, ◌≤◌}
 use Rattle.pg_disk.specs.Account.{account, IsHonest}
-use Rattle.pg_run.specs.Broker.{fresh, opened_from}
-use Rattle.pg_run.specs.Opened.{HasNoFile}
+use Rattle.pg_engine.specs.Broker.{fresh, opened_from}
+use Rattle.pg_engine.specs.Opened.{HasNoFile}
 use Rattle.pg_run.specs.Served.{LeavesRun}
 use Rattle.pg_run.proofs.ServingLemmas.{completes, input_served}
 use Rattle.pg_run.proofs.serving.serve.Goals as goal

@@ -1,4 +1,4 @@
-use Rattle.std.proofs.Common.{Some, false, refl, inr}
+use Rattle.std.proofs.Common.{Some, true, false, refl, inr}
 use Rattle.pg_disk.specs.declared.call_record.CallKind.TheVariants as kind
 use Rattle.pg_disk.specs.Calls.{ChangesFile, Created}
 use Rattle.pg_disk.specs.Image.{LeavesAt, MayBeCreated}
@@ -20,7 +20,9 @@ returns-clause-time c =
     let m = c.args.self.now in
     let f = c.args.file in
     settled_time (events_of m) c.create-outcome.new.self.history.events.items (Some (kind.Create f)) false (after_create f) c.create-outcome.result c.call_succeeds-done.result _ _ _ _ c.settle.result c.create-outcome.ensures c.settle.ensures
-    (LeavesAt f MayBeCreated (tells_of m)) (λ b is d t left. leaves_created (events_of m) f b (c.requires (honest (events_of m))) d t left)
+    (LeavesAt f MayBeCreated (tells_of m))
+    (λ b is d t left. leaves_created (events_of m) f b (c.requires (honest (events_of m))) d t left)
+    (λ b is d t left. leaves_created (events_of m) f true (c.requires (honest (events_of m))) d t left)
 
 pub returns-clause-answer : goal.returns-clause-answer
 returns-clause-answer c =

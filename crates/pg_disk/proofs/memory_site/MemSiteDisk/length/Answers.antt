@@ -19,7 +19,7 @@ pub returns-clause-time : goal.returns-clause-time
 returns-clause-time c =
     let m = c.args.self.now in
     settled_time (events_of m) c.length-outcome.new.self.history.events.items (Some (kind.Length c.args.file)) false (λ _. unchanged) c.length-outcome.result c.call_succeeds-done.result _ _ _ _ c.settle.result c.length-outcome.ensures.recorded c.settle.ensures
-    (Leaves (tells_of m)) (λ b is d t left. left)
+    (Leaves (tells_of m)) (λ b is d t left. left) (λ b is d t left. left)
 
 pub returns-clause-answer : goal.returns-clause-answer
 returns-clause-answer c =

@@ -50,8 +50,8 @@ returns-clause-time c =
     let new = c.read-outcome.new.self.history.events.items in
     by_cases (λ (n : ℕ). Recorded (events_of m) new (Some (kind.Read c.args.file)) false (after_read n)) (new ≡ events_of m) c.read-outcome.result c.call_succeeds-done.result _ _ _ _ c.settle.result
     (λ r. Elapses (length (events_of m)) (length new) (LeftSince (events_of m)) (LeftSince new) (Leaves (tells_of m))) c.read-outcome.ensures.recorded c.settle.ensures
-    (λ v is rec was same. elapses_after (events_of m) new (Some (kind.Read c.args.file)) false (after_read v) rec (Leaves (tells_of m)) (leaves_read (events_of m) v))
-    (λ v e is rec was same. elapses_after (events_of m) new (Some (kind.Read c.args.file)) false (after_read v) rec (Leaves (tells_of m)) (leaves_read (events_of m) v))
+    (λ v is rec was same. elapses_after (events_of m) new (Some (kind.Read c.args.file)) false (after_read v) rec (Leaves (tells_of m)) (leaves_read (events_of m) v) (leaves_read (events_of m) v))
+    (λ v e is rec was same. elapses_after (events_of m) new (Some (kind.Read c.args.file)) false (after_read v) rec (Leaves (tells_of m)) (leaves_read (events_of m) v) (leaves_read (events_of m) v))
     (λ e same rose. elapses_none (events_of m) new (Leaves (tells_of m)) same)
 
 pub returns-clause-answer : goal.returns-clause-answer

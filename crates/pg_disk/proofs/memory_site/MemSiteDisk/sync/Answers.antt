@@ -23,7 +23,7 @@ returns-clause-time c =
     let m = c.args.self.now in
     let f = c.args.file in
     settled_time (events_of m) c.sync-outcome.new.self.history.events.items (Some (kind.Sync f)) false (after_sync f) c.sync-outcome.result c.call_succeeds-done.result _ _ _ _ c.settle.result c.sync-outcome.ensures c.settle.ensures
-    (Leaves (tells_of m)) (λ b is d t left. leaves_synced (events_of m) f b d t left)
+    (Leaves (tells_of m)) (λ b is d t left. leaves_synced (events_of m) f b d t left) (λ b is d t left. leaves_synced (events_of m) f b d t left)
 
 pub returns-clause-answer : goal.returns-clause-answer
 returns-clause-answer c =

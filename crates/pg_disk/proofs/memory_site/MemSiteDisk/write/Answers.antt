@@ -27,7 +27,7 @@ returns-clause-time c =
     let m = c.args.self.now in
     let f = c.args.file in
     settled_time (events_of m) c.write-outcome.new.self.history.events.items (Some (kind.Write f)) false (after_write f c.args.at c.args.bytes.now) c.write-outcome.result c.call_succeeds-done.result _ _ _ _ c.settle.result c.write-outcome.ensures c.settle.ensures
-    (Leaves (Some (replay start c.write-outcome.new.self.history.events.items))) (λ b is d t left. subst (λ (a : Account). Leaves (Some a) d t) (sym is) left)
+    (Leaves (Some (replay start c.write-outcome.new.self.history.events.items))) (λ b is d t left. subst (λ (a : Account). Leaves (Some a) d t) (sym is) left) (λ b is d t left. subst (λ (a : Account). Leaves (Some a) d t) (sym is) left)
 
 pub returns-clause-answer : goal.returns-clause-answer
 returns-clause-answer c =

@@ -17,7 +17,7 @@ pub returns-clause-time : goal.returns-clause-time
 returns-clause-time c =
     let m = c.args.self.now in
     settled_time (events_of m) c.emit-outcome.new.self.history.events.items None true (after_emit c.args.bytes.now) c.emit-outcome.result c.emit_succeeds-done.result _ _ _ _ c.settle.result c.emit-outcome.ensures c.settle.ensures
-    (LeavesPrefix c.args.bytes.now (tells_of m)) (λ b is d t left. leaves_emitted (events_of m) c.args.bytes.now b d t left)
+    (LeavesPrefix c.args.bytes.now (tells_of m)) (λ b is d t left. leaves_emitted (events_of m) c.args.bytes.now b d t left) (λ b is d t left. leaves_emitted (events_of m) c.args.bytes.now b d t left)
 
 pub returns-clause-answer : goal.returns-clause-answer
 returns-clause-answer c = answers_emit c.args.self.now _ c.args.bytes.now c.emit-outcome.result c.emit_succeeds-done.result _ _ c.settle.result c.emit-outcome.ensures c.settle.ensures c.emit_succeeds-done.ensures

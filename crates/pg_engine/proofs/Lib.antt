@@ -1,0 +1,5 @@
+pub mod Executing
+pub mod JournalLemmas
+pub mod OpeningLemmas
+pub mod RouteLemmas
+pub mod StateLemmas

@@ -1,0 +1,56 @@
+-- What a command does to the state in memory, and the entry that the journal gets for it.
+use Rattle.std.specs.Prelude.{◌≡◌, ◌≤◌, ◌+◌, ℕ, List, [], ◌∷◌, length, Some, None}
+use Rattle.std.specs.Option.{option_map_or}
+use Rattle.pg_disk.specs.declared.fault.Fault.{Fault}
+use Rattle.pg_disk.specs.declared.fault.Fault.TheVariants.{Failed, Damaged, Spent, Memory}
+use Rattle.pg_msg.specs.declared.command.Command.{Command}
+use Rattle.pg_msg.specs.declared.command.Command.TheVariants as command
+use Rattle.pg_msg.specs.Replies.{IsBuilt}
+use Rattle.pg_records.specs.declared.entry.Entry.{Entry}
+use Rattle.pg_records.specs.declared.entry.Entry.TheVariants as entry
+use Rattle.pg_records.specs.Entries.{HasFields}
+use Rattle.pg_engine.specs.declared.state.Outcome.{Outcome}
+use Rattle.pg_engine.specs.declared.state.Outcome.TheVariants.{Unchanged, Changed}
+use Rattle.pg_engine.specs.Broker.{Broker, place_of, routed, next_id, plain, refusal_of, Step}
+use Rattle.pg_engine.specs.Fold.{effect}
+
+-- the entry of a message that goes to these queues
+abbrev pub batch_of_message : Broker → ℕ → List ℕ → List ℕ → List Entry
+batch_of_message s place body [] = []
+batch_of_message s place body (number ∷ numbers) = entry.Add (place + 1) (number ∷ numbers) (plain (next_id s) body) ∷ []
+
+-- the entries of the batch that a command writes where it isn't refused; one without entries writes nothing
+abbrev pub batch_of : Broker → Command → List Entry
+batch_of s (command.Address name max page ahead dup) = entry.Address (length s.durable.addresses + 1) name max page ahead dup ∷ []
+batch_of s (command.Queue name address None) = option_map_or (λ place. entry.Queue s.durable.next (place + 1) name [] ∷ []) (place_of s.durable.addresses address) []
+batch_of s (command.Send address None None [] body) = option_map_or (λ place. batch_of_message s place body (routed place s.durable.queues)) (place_of s.durable.addresses address) []
+batch_of s _ = []
+
+-- no number is left for a further queue
+abbrev pub HasNoNumber : Broker → Command → Type 0
+HasNoNumber s (command.Queue name address None) = 4294967295 ≤ s.durable.next
+HasNoNumber s _ = ⊥
+
+-- the command isn't refused, and the entry of its batch gives the state after it
+pub record Records (s : Broker) (command : Command) (entry : Entry) (t : Broker) : Type 0 where
+  pub accepted : refusal_of s command ≡ None
+  pub batch : batch_of s command ≡ entry ∷ []
+  pub gives : effect s.durable entry ≡ Some t.durable
+  pub fields : HasFields entry
+
+-- one step, which keeps the state or has an entry
+abbrev pub IsOutcome : Broker → Command → Outcome → Type 0
+IsOutcome s command (Unchanged t reply) = (t ≡ s) × Step s (Some command) reply s
+IsOutcome s command (Changed t entry reply) = Step s (Some command) reply t × Records s command entry t
+
+-- the reply is one that is built
+abbrev pub TellsBuilt : Outcome → Type 0
+TellsBuilt (Unchanged t reply) = IsBuilt reply
+TellsBuilt (Changed t entry reply) = IsBuilt reply
+
+-- no outcome: for want of memory, or where a command that isn't refused finds no number
+abbrev pub IsNoOutcome : Broker → Command → Fault → Type 0
+IsNoOutcome s command Failed = ⊥
+IsNoOutcome s command (Damaged damage) = ⊥
+IsNoOutcome s command Spent = (refusal_of s command ≡ None) × HasNoNumber s command
+IsNoOutcome s command Memory = Unit {0}

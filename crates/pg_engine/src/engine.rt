@@ -1,0 +1,58 @@
+// The broker over its journal: each command that changes the state is one batch.
+ghost use Rattle.std.specs.Prelude.{◌≡◌, ◌⊎◌, ◌<◌, ◌+◌, ◌^◌, Option, Some, IsErr, IfOk, IfErr, IsErrOf};
+ghost use Rattle.pg_disk.specs.Account.{account, IsHonest};
+ghost use Rattle.pg_disk.specs.Counts.{CountsFault};
+ghost use Rattle.pg_msg.specs.Commands.{IsInRange};
+ghost use Rattle.pg_msg.specs.Replies.{IsBuilt};
+ghost use Rattle.pg_engine.specs.Executed.{Owns, Executes, MeetsLimit, state_of};
+ghost use Rattle.pg_engine.specs.Opened.{IsDamaged};
+
+use crate::state::{Outcome, State};
+use pg_disk::{Disk, Fault};
+use pg_gate::Rest;
+use pg_msg::{Command, Reply};
+use pg_records::encode_batch;
+use std::alloc::Global;
+
+/// A broker over its journal.
+#[derive(Drop)]
+pub struct Engine {
+    pub(crate) journal: Rest,
+    pub(crate) state: State,
+}
+
+impl Engine {
+    /// Executes a command. What it changes is on the disk at Ok. `Spent` comes where no queue number is left, and where the
+    /// journal would grow past its limit; `Failed` where the disk failed; `Memory` for want of memory; `Damaged` never.
+    /// After an Err there is no engine any more.
+    pub fn exec<D: Disk>(
+        self,
+        alloc: Global,
+        disk: &mut D,
+        command: Command,
+    ) -> Result<(Engine, Reply), Fault>
+        requires own { IsHonest (D.tells disk.old) → Owns self (account (D.tells disk.old)).files }
+        requires in_range { IsInRange command }
+        ensures executes { IsHonest (D.tells disk.old) → (IsErr result × (disk.new ≡ disk.old)) ⊎ Executes D.moment D.left_since D.tells (state_of self) (Some command) disk.old disk.new result }
+        ensures built { IfOk result (λ done. IsBuilt done.1) }
+        ensures back { IsHonest (D.tells disk.new) → IsHonest (D.tells disk.old) }
+        ensures never_damaged { IfErr result (λ fault. IsDamaged fault → ⊥) }
+        ensures untouched { IsErrOf result Fault.Spent → disk.new ≡ disk.old }
+        ensures limit { IsErrOf result Fault.Spent → MeetsLimit self command }
+        ensures cause { CountsFault (D.faults disk.old) (D.faults disk.new) result }
+    {
+        let Engine { journal, state } = self;
+        match state.execute(alloc, command)? {
+            Outcome::Unchanged { state, reply } => Ok((Engine { journal, state }, reply)),
+            Outcome::Changed {
+                state,
+                entry,
+                reply,
+            } => {
+                let batch = encode_batch(alloc, &[entry])?;
+                let journal = journal.append(disk, batch.as_slice())?;
+                Ok((Engine { journal, state }, reply))
+            }
+        }
+    }
+}

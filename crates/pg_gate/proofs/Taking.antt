@@ -1,0 +1,52 @@
+-- How many bytes are read from gate to gate.
+use Rattle.std.proofs.Common.{◌≡◌, ℕ, ◌+◌, ◌*◌, ◌≤◌, ◌<◌, List, [], ◌∷◌, ◌++◌, length, Option, Result, Ok, Err, OnErr, ap, arith, ◌∙◌, length-append}
+use Rattle.std.proofs.lemmas.List.Sums.{sum_by_push}
+use Rattle.std.specs.FinMap.{get}
+use Rattle.pg_disk.specs.declared.file_id.FileId.{FileId}
+use Rattle.pg_disk.specs.Account.{Account, account}
+use Rattle.pg_disk.specs.Calls.{Changes, Reads}
+use Rattle.pg_gate.specs.declared.spans.Span.{Span}
+use Rattle.pg_gate.specs.Spans.{AsRead, ReadsGates, ReadsGateAt, ReadsWithin, payload_bytes}
+
+-- for each place so far at most a gate and a length were read
+abbrev pub ReadsSpans : List Span → Account → Account → Type 0
+ReadsSpans spans old new = new.taken ≤ old.taken + 9 * length spans
+
+-- the gate stands behind the gates, lengths and payloads of these places
+abbrev pub StandsBehind : List Span → ℕ → Type 0
+StandsBehind spans gate = gate ≡ 9 * length spans + payload_bytes spans
+
+pub behind_more : (spans : List Span) (span : Span) (gate : ℕ) → StandsBehind spans gate → span.at ≡ gate + 9 → StandsBehind (spans ++ span ∷ []) (span.at + span.length)
+behind_more spans span gate stands at_is = omega (arith, stands, at_is, length-append spans (span ∷ []), sum_by_push (λ (s : Span). s.length) spans span)
+
+-- one place more
+pub spans_more : (file : FileId) (old mid new : Option Account) (n gate : ℕ) (spans : List Span) (span : Span) → Changes old mid (Reads n) → AsRead file old (λ _. ReadsSpans spans (account old) (account mid))
+    → AsRead file mid (λ bytes. ReadsGateAt bytes gate (account mid) (account new)) → AsRead file old (λ _. ReadsSpans (spans ++ span ∷ []) (account old) (account new))
+spans_more file old mid new n gate spans span change so_far next h s there =
+    let gate_read = next (change.kept h) s (ap (λ m. get m file) (change.step h).files ∙ there) in
+    omega (arith, so_far h s there, gate_read.few, length-append spans (span ∷ []))
+
+-- the gate behind them
+pub gates_read : (file : FileId) (old mid new : Option Account) (n gate end : ℕ) (spans : List Span) → Changes old mid (Reads n) → StandsBehind spans gate → gate < end → AsRead file old (λ _. ReadsSpans spans (account old) (account mid))
+    → AsRead file mid (λ bytes. ReadsGateAt bytes gate (account mid) (account new)) → AsRead file old (λ bytes. end ≡ length bytes → ReadsGates bytes spans (account old) (account new))
+gates_read file old mid new n gate end spans change stands within so_far next h s there end_is =
+    let gate_read = next (change.kept h) s (ap (λ m. get m file) (change.step h).files ∙ there) in
+    let before = so_far h s there in
+    record {
+      gates = omega (arith, before, gate_read.few);
+      outside = omega (arith, before, gate_read.within, stands, within, end_is);
+    }
+
+-- whatever it comes to, where it is an error
+pub gates_within : {T E : Type 0} (result : Result T E) (file : FileId) (old new : Option Account) (end : ℕ) (spans : List Span) → AsRead file old (λ bytes. end ≡ length bytes → ReadsGates bytes spans (account old) (account new))
+    → OnErr result (AsRead file old (λ bytes. end ≡ length bytes → ReadsWithin bytes (account old) (account new)))
+gates_within (Ok x) file old new end spans read = tt
+gates_within (Err e) file old new end spans read = λ h s there end_is. omega (arith, (read h s there end_is).outside)
+
+-- the length is asked for first
+pub gates_after : (file : FileId) (old mid new : Option Account) (end : ℕ) (spans : List Span) → Changes old mid (Reads 0) → AsRead file old (λ bytes. end ≡ length bytes)
+    → AsRead file mid (λ bytes. end ≡ length bytes → ReadsGates bytes spans (account mid) (account new)) → AsRead file old (λ bytes. ReadsGates bytes spans (account old) (account new))
+gates_after file old mid new end spans change size read h s there =
+    let step = change.step h in
+    let found = read (change.kept h) s (ap (λ m. get m file) step.files ∙ there) (size h s there) in
+    record { gates = omega (arith, found.gates, step.taken); outside = omega (arith, found.outside, step.taken) }
