@@ -26,7 +26,7 @@ const QUEUE_IDS: u32 = 4_294_967_295;
 /// What outlives a run, as the journal's entries give it. `docs/FORMATS.md` has the condition and the effect of each.
 #[derive(Debug, Drop)]
 pub struct Durable {
-    /// How many times the broker was opened.
+    /// The epoch of the last opening, 0 before the first.
     pub epoch: u32,
     pub addresses: AddressRows,
     pub queues: QueueRows,

@@ -38,6 +38,6 @@ pub struct JournaledRow {
     /// The id of its address.
     pub address: u32,
     pub message: Message,
-    /// The ids of the queues that hold it, ascending.
+    /// The ids of the queues that hold it, in the order in which the entry named them.
     pub holders: QueueIds,
 }
