@@ -1,0 +1,4 @@
+pub mod AddressLemmas
+pub mod FoldLaws
+pub mod JournaledLemmas
+pub mod QueueLemmas

@@ -1,0 +1,14 @@
+// Laws of the fold.
+ghost use Rattle.std.specs.Prelude.{◌≡◌, ◌≢◌, ◌++◌, ◌∷◌, [], List, Some, None};
+ghost use Rattle.std.specs.Option.{option_and_then};
+ghost use Rattle.pg_records.specs.declared.entry.Entry.{Entry};
+ghost use Rattle.pg_fold.specs.declared.durable.Durable.{Durable};
+ghost use Rattle.pg_fold.specs.Fold.{fold, rule_of, IsApplied};
+
+/// The entries may be cut into parts that are folded one behind the other, and what `apply` answers to the next entry is
+/// what they give with it. This law has no code.
+pub fn fold_in_parts()
+    ensures parts { (d : Durable) (first others : List Entry) → fold d (first ++ others) ≡ option_and_then (λ between. fold between others) (fold d first) }
+    ensures applied { (d before after : Durable) (some : List Entry) (next : Entry) → fold d some ≡ Some before → IsApplied before next after → fold d (some ++ next ∷ []) ≡ Some after }
+    ensures broken { (d before : Durable) (some : List Entry) (next : Entry) → fold d some ≡ Some before → rule_of before next ≢ None → fold d (some ++ next ∷ []) ≡ None }
+{}

@@ -1,0 +1,20 @@
+//! The state that the journal's entries give, folded one after the other.
+#![tactic(auto)]
+
+mod addresses;
+mod durable;
+mod fold_error;
+mod journaled;
+mod laws;
+mod queues;
+mod rows;
+#[cfg(test)]
+mod tests;
+
+pub use addresses::AddressRows;
+pub use durable::Durable;
+pub use fold_error::FoldError;
+pub use journaled::JournaledRows;
+pub use laws::fold_in_parts;
+pub use queues::QueueRows;
+pub use rows::{AddressRow, JournaledRow, QueueRow};
