@@ -1,0 +1,15 @@
+pub mod AlikeLemmas
+pub mod EpochLemmas
+pub mod FindLemmas
+pub mod FitLemmas
+pub mod GroupLemmas
+pub mod ListLemmas
+pub mod OneState
+pub mod OpenLemmas
+pub mod OrderLemmas
+pub mod PieceLemmas
+pub mod PlaceLemmas
+pub mod RecoverLemmas
+pub mod RemoveLemmas
+pub mod RoomLemmas
+pub mod SyncLemmas

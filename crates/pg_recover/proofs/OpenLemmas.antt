@@ -1,0 +1,133 @@
+-- Opening over files of which nothing is pending.
+use Rattle.std.proofs.Common.{◌≡◌, ◌≢◌, ◌⊎◌, inl, inr, ⊎_elim, ℕ, ◌+◌, ◌^◌, ◌≤◌, ◌<◌, List, [], length, get_or, Option, Some, None, Result, Ok, Err, refl, sym, ◌∙◌, ap, subst, arith}
+use Rattle.std.specs.Prelude.{IfOk, IfErr}
+use Rattle.std.specs.FinMap.{FinMap, get, keys}
+use Rattle.std.specs.List.{Contains}
+use Rattle.pg_disk.specs.declared.fault.Fault.{Fault}
+use Rattle.pg_disk.specs.declared.fault.Fault.TheVariants.{Failed, Damaged, Spent, Memory}
+use Rattle.pg_disk.specs.declared.file_id.FileId.{FileId}
+use Rattle.pg_disk.specs.declared.file_id.Kind.TheVariants.{Journal as OfJournal}
+use Rattle.pg_disk.specs.Files.{file_cmp, Files}
+use Rattle.pg_disk.specs.Account.{FileState, Account, account, IsHonest}
+use Rattle.pg_disk.specs.Calls.{Changes}
+use Rattle.pg_disk.specs.Image.{IsFileThere}
+use Rattle.pg_gate.specs.Gated.{opened}
+use Rattle.pg_gate.proofs.Unique.{stands_length}
+use Rattle.pg_fold.specs.declared.durable.Durable.{Durable}
+use Rattle.pg_journal.specs.declared.journal.Journal.{Journal}
+use Rattle.pg_journal.specs.Generations.{as_read, as_left, bytes_of}
+use Rattle.pg_journal.specs.Looks.{ReadsGenerations}
+use Rattle.pg_journal.specs.Stands.{StaysOrSettles, counted, name_of}
+use Rattle.pg_journal.proofs.Scanned.{stays_away, stays_there}
+use Rattle.pg_recover.specs.declared.opening.Parts.{Parts}
+use Rattle.pg_recover.specs.Denotation.{FoldsTo, raised}
+use Rattle.pg_recover.specs.Listing.{AreListed}
+use Rattle.pg_recover.specs.Raising.{IsReady, IsUnfit, LeavesRaised}
+use Rattle.pg_recover.specs.Recovered.{AllQuiet, AreIllFormed, HasNoEpoch, IsIllFormed, IsSpentAt, LeavesOpened, OpensFiles, Owns}
+use Rattle.pg_recover.specs.Removing.{IsOther, ListsOthers}
+use Rattle.pg_recover.specs.Said.{IsReadFrom, LeavesSaid}
+use Rattle.pg_recover.specs.WellFormed.{AreRoomy, WellFormed}
+use Rattle.pg_recover.proofs.OneState.{folds_to, state_is}
+use Rattle.pg_recover.proofs.OrderLemmas.{all_there, ascend_apart, listed_there, listing_ascends, listing_shows, there_listed}
+
+-- while the journal is read
+pub said_leaves : (old : Option Account) (c : Files) (b : List ℕ) → LeavesSaid old c b → LeavesOpened old c b
+said_leaves old c b left = record {
+  honest = left.honest;
+  nothing = left.nothing;
+  denotes = λ d folds. inl (record { batches = folds.batches; entries = folds.entries; says = left.says folds.batches folds.says; spelled = folds.spelled; folded = folds.folded });
+}
+
+pub reads_open : (old mid : Option Account) → Changes old mid ReadsGenerations → Changes old mid OpensFiles
+reads_open old mid stays = record {
+  kept = stays.kept;
+  back = stays.back;
+  step = λ h. let a = stays.step h in record { told = a.told; taken = omega (arith, a.taken); others = λ file kind. ap bytes_of (a.others file kind) };
+}
+
+pub opens_then : (old mid new : Option Account) → Changes old mid OpensFiles → Changes mid new OpensFiles → Changes old new OpensFiles
+opens_then old mid new first second = record {
+  kept = λ h. second.kept (first.kept h);
+  back = λ h. first.back (second.back h);
+  step = λ h.
+      let a = first.step h in
+      let b = second.step (first.kept h) in
+      record { told = b.told ∙ a.told; taken = omega (arith, a.taken, b.taken); others = λ file kind. b.others file kind ∙ a.others file kind };
+}
+
+-- the journal was read
+module _ (old mid : Option Account) (stays : Changes old mid ReadsGenerations) (journal : Journal) (d : Durable) (read : IsHonest old → IsReadFrom journal d (account old).files (account mid).files) where
+  pub raised_leaves : (c : Files) (b : List ℕ) → LeavesRaised journal d mid c b → LeavesOpened old c b
+  raised_leaves c b left =
+      let honest = stays.back left.honest in
+      let is = read honest in
+      record {
+        honest = honest;
+        nothing = left.nothing ∙ (stays.step honest).told;
+        denotes = λ e folds. let same = state_is (as_read (account old).files) is.batches d e is.says is.folds folds in
+            subst (λ s. FoldsTo (as_left c) s ⊎ FoldsTo (as_left c) (raised s)) (sym same) (left.denotes is.batches is.stands is.folds);
+      }
+
+  pub read_folds : (honest : IsHonest old) → FoldsTo (as_read (account old).files) d
+  read_folds honest = let is = read honest in folds_to (as_read (account old).files) is.batches d is.says is.folds
+
+  module _ (ids : List FileId) (listed : IsHonest old → ids ≡ keys (account old).files) where
+    there_still : (honest : IsHonest old) (file : FileId) → IsOther (name_of journal) file → IsFileThere file (account old).files → IsFileThere file (account mid).files
+    there_still honest file other there =
+        stays_there there.0 (get (account mid).files file) (subst (λ s. StaysOrSettles s (get (account mid).files file)) there.1 ((read honest).others file other.0 other.1))
+
+    all_others : (honest : IsHonest old) (file : FileId) → IsOther (name_of journal) file → (o : Option FileState) → get (account old).files file ≡ o → Contains ids file ⊎ (get (account mid).files file ≡ None)
+    all_others honest file other None is = inr (stays_away (get (account old).files file) (get (account mid).files file) is ((read honest).others file other.0 other.1))
+    all_others honest file other (Some s) is = inl (there_listed (account old).files ids (listed honest) file (s, is))
+
+    pub ready : IsHonest mid → IsReady journal d ids (account mid).files
+    ready after =
+        let honest = stays.back after in
+        let is = read honest in
+        record {
+          batches = is.batches;
+          stands = is.stands;
+          folds = is.folds;
+          listed = record {
+            distinct = ascend_apart ids (listing_ascends (account old).files ids (listed honest));
+            there = λ k f lt other. there_still honest (get_or ids k f) other (all_there (account old).files ids (listed honest) k f lt);
+            all = λ file other. all_others honest file other (get (account old).files file) refl;
+          };
+          quiet = is.quiet;
+        }
+
+    -- what the state can't stand beside isn't well formed
+    unfit_ill : (AreListed d.addresses None ids → AreRoomy d → ⊥) → AreIllFormed old
+    unfit_ill not honest well =
+        let is = read honest in
+        let same = state_is (as_read (account old).files) is.batches d well.state is.says is.folds well.folds in
+        not (subst (λ (s : Durable). AreListed s.addresses None ids) same (listing_shows (account old).files ids (listed honest) well.state.addresses well.named well.gapless))
+        (subst AreRoomy same well.roomy)
+
+    pub check_ill : (epochs : ℕ) (e : Fault) → IsUnfit ids journal d epochs e → IsIllFormed old e
+    check_ill epochs Failed unfit = tt
+    check_ill epochs (Damaged damage) unfit = unfit_ill unfit
+    check_ill epochs Spent unfit = tt
+    check_ill epochs Memory unfit = tt
+
+    no_epoch : (epochs : ℕ) → (epochs ≤ d.epoch + 1) ⊎ (2 ^ 62 < counted journal + 14) → IsHonest old → HasNoEpoch epochs (account old).files
+    no_epoch epochs none honest =
+        let is = read honest in
+        record {
+          state = d;
+          folds = record { batches = is.batches; entries = is.folds.entries; says = is.says; spelled = is.folds.spelled; folded = is.folds.folded };
+          spent = ⊎_elim (λ past. inl past) (λ full. inr (omega (arith, full, stands_length journal.rest is.batches (get (account mid).files (name_of journal)) is.stands.stands))) none;
+        }
+
+    pub check_spent : (epochs : ℕ) (e : Fault) → IsUnfit ids journal d epochs e → IsSpentAt epochs old e
+    check_spent epochs Failed unfit = tt
+    check_spent epochs (Damaged damage) unfit = tt
+    check_spent epochs Spent unfit = no_epoch epochs unfit
+    check_spent epochs Memory unfit = tt
+
+  -- what an opening comes to
+  pub all_recovered : (new : Option Account) (result : Result Parts Fault) → IfOk result (λ parts. parts.durable ≡ raised d)
+      → IfOk result (λ parts. IsHonest mid → Owns parts.journal parts.durable (account new).files × AllQuiet (account new).files)
+      → IfOk result (λ parts. IsHonest old → (e : Durable) × FoldsTo (as_read (account old).files) e × (parts.durable ≡ raised e) × Owns parts.journal parts.durable (account new).files × AllQuiet (account new).files)
+  all_recovered new (Ok parts) is owned = λ honest. let own = owned (stays.kept honest) in (d, read_folds honest, is, own.0, own.1)
+  all_recovered new (Err e) is owned = tt

@@ -1,0 +1,188 @@
+-- The files are listed and synced, and then opened.
+use Rattle.std.proofs.Common.{◌≡◌, ◌⊎◌, inl, inr, ℕ, ◌+◌, ◌≤◌, List, Option, Some, None, Result, Ok, Err, refl, sym, ◌∙◌, ap, subst, arith}
+use Rattle.std.specs.Prelude.{IfOk, IfErr, OnOk, is_some}
+use Rattle.std.specs.FinMap.{get, keys}
+use Rattle.std.specs.List.{All}
+use Rattle.pg_disk.specs.declared.fault.Fault.{Fault}
+use Rattle.pg_disk.specs.declared.fault.Fault.TheVariants.{Failed, Damaged, Spent, Memory}
+use Rattle.pg_disk.specs.declared.file_id.FileId.{FileId}
+use Rattle.pg_disk.specs.Files.{Files}
+use Rattle.pg_disk.specs.Account.{FileState, Account, account, IsHonest}
+use Rattle.pg_disk.specs.Calls.{Changes, Reads}
+use Rattle.pg_disk.specs.Image.{IsFileThere, Leaves}
+use Rattle.pg_disk.specs.Moments.{Within, WithinFrom}
+use Rattle.pg_disk.proofs.Runs.{then_run, weaker}
+use Rattle.pg_gate.proofs.Reading.{reads_leave}
+use Rattle.pg_fold.specs.declared.durable.Durable.{Durable}
+use Rattle.pg_journal.specs.Generations.{Contents, as_read, as_left, bytes_of, JournalOf}
+use Rattle.pg_journal.specs.Stands.{IsQuietAt}
+use Rattle.pg_journal.proofs.Saying.{left_keeps, quiet_says}
+use Rattle.pg_recover.specs.declared.opening.Parts.{Parts}
+use Rattle.pg_recover.specs.Denotation.{FoldsTo, raised}
+use Rattle.pg_recover.specs.Recovered.{AllQuiet, HasNoEpoch, IsIllFormed, IsSpentAt, LeavesOpened, OpensFiles, Owns}
+use Rattle.pg_recover.specs.Syncing.{NarrowsAt, SyncsFiles}
+use Rattle.pg_recover.specs.WellFormed.{WellFormed}
+use Rattle.pg_recover.proofs.OpenLemmas.{opens_then}
+use Rattle.pg_recover.proofs.OrderLemmas.{all_quiet, all_there, same_keys}
+use Rattle.pg_recover.proofs.SyncLemmas.{syncs_leave}
+
+-- where nothing is pending, what a crash leaves gives the same state
+pub quiet_leaves : (old : Option Account) → AllQuiet (account old).files → (c : Files) (b : List ℕ) → Leaves old c b → LeavesOpened old c b
+quiet_leaves old quiet c b left = record {
+  honest = left.honest;
+  nothing = left.told;
+  denotes = λ d folds. inl (record {
+    batches = folds.batches;
+    entries = folds.entries;
+    says = quiet_says (account old).files c (λ file kind. quiet file) (λ file kind. left_keeps (get (account old).files file) (get c file) (left.image file)) folds.batches folds.says;
+    spelled = folds.spelled;
+    folded = folds.folded;
+  });
+}
+
+pub listing_opens : (old mid : Option Account) → Changes old mid (Reads 0) → Changes old mid OpensFiles
+listing_opens old mid same = record {
+  kept = same.kept;
+  back = same.back;
+  step = λ h. let a = same.step h in record { told = a.told; taken = omega (arith, a.taken); others = λ file kind. ap (λ m. bytes_of (get m file)) a.files };
+}
+
+narrows_bytes : (s t : Option FileState) → NarrowsAt s t → bytes_of t ≡ bytes_of s
+narrows_bytes None None narrows = refl
+narrows_bytes None (Some t) narrows = absurd narrows
+narrows_bytes (Some s) None narrows = absurd narrows
+narrows_bytes (Some s) (Some t) narrows = ap Some narrows.bytes
+
+narrows_there : (s t : Option FileState) → NarrowsAt s t → is_some t ≡ is_some s
+narrows_there None None narrows = refl
+narrows_there None (Some t) narrows = absurd narrows
+narrows_there (Some s) None narrows = absurd narrows
+narrows_there (Some s) (Some t) narrows = refl
+
+-- the files after the listing, and after the sync
+module _ (old mid now : Option Account) (same : Changes old mid (Reads 0)) (synced : Changes mid now SyncsFiles) where
+  there_as_before : (honest : IsHonest old) (file : FileId) → is_some (get (account now).files file) ≡ is_some (get (account old).files file)
+  there_as_before honest file =
+      narrows_there (get (account mid).files file) (get (account now).files file) ((synced.step (same.kept honest)).files file) ∙ ap (λ m. is_some (get m file)) (same.step honest).files
+
+  reads_as : IsHonest old → as_read (account now).files ≡ as_read (account old).files
+  reads_as honest = λ i file. (is file) i
+    where
+      is : (file : FileId) → as_read (account now).files file ≡ as_read (account old).files file
+      is file = narrows_bytes (get (account mid).files file) (get (account now).files file) ((synced.step (same.kept honest)).files file) ∙ ap (λ m. bytes_of (get m file)) (same.step honest).files
+
+  pub sync_opens : Changes old now OpensFiles
+  sync_opens = record {
+    kept = λ h. synced.kept (same.kept h);
+    back = λ h. same.back (synced.back h);
+    step = λ h.
+        let a = same.step h in
+        let b = synced.step (same.kept h) in
+        record { told = b.told ∙ a.told; taken = omega (arith, a.taken, b.taken); others = λ file kind. ap (λ (contents : Contents). contents file) (reads_as h) };
+  }
+
+  honest_before : IsHonest now → IsHonest old
+  honest_before honest = same.back (synced.back honest)
+
+  pub sync_leaves : (c : Files) (b : List ℕ) → Leaves mid c b → Leaves old c b
+  sync_leaves c b left = reads_leave old mid 0 same c b left
+
+  pub opened_leaves : (c : Files) (b : List ℕ) → LeavesOpened now c b → LeavesOpened old c b
+  opened_leaves c b left =
+      let honest = honest_before left.honest in
+      record { honest = honest; nothing = left.nothing ∙ (sync_opens.step honest).told; denotes = λ d folds. left.denotes d (subst (λ contents. FoldsTo contents d) (sym (reads_as honest)) folds) }
+
+  pub opened_ill : (e : Fault) → IsIllFormed now e → IsIllFormed old e
+  opened_ill Failed is = tt
+  opened_ill (Damaged damage) is = λ honest well. is (sync_opens.kept honest) (subst WellFormed (sym (reads_as honest)) well)
+  opened_ill Spent is = tt
+  opened_ill Memory is = tt
+
+  pub opened_spent : (epochs : ℕ) (e : Fault) → IsSpentAt epochs now e → IsSpentAt epochs old e
+  opened_spent epochs Failed is = tt
+  opened_spent epochs (Damaged damage) is = tt
+  opened_spent epochs Spent is = λ honest.
+      let none = is (sync_opens.kept honest) in
+      let folds = none.folds in
+      record {
+        state = none.state;
+        folds = record { batches = folds.batches; entries = folds.entries; says = subst (λ contents. JournalOf contents folds.batches) (reads_as honest) folds.says; spelled = folds.spelled; folded = folds.folded };
+        spent = none.spent;
+      }
+  opened_spent epochs Memory is = tt
+
+  pub recovered_first : (new : Option Account) (parts : Parts)
+      → (IsHonest now → (d : Durable) × FoldsTo (as_read (account now).files) d × (parts.durable ≡ raised d) × Owns parts.journal parts.durable (account new).files × AllQuiet (account new).files)
+      → IsHonest old → (d : Durable) × FoldsTo (as_read (account old).files) d × (parts.durable ≡ raised d) × Owns parts.journal parts.durable (account new).files × AllQuiet (account new).files
+  recovered_first new parts recovered honest =
+      let is = recovered (sync_opens.kept honest) in
+      (is.0, subst (λ contents. FoldsTo contents is.0) (reads_as honest) is.1, is.2, is.3, is.4)
+
+  module _ (ids : List FileId) (listed : IsHonest old → ids ≡ keys (account old).files) where
+    pub listed_now : IsHonest now → ids ≡ keys (account now).files
+    listed_now honest = let before = honest_before honest in listed before ∙ same_keys (account old).files (account now).files (there_as_before before)
+
+    pub quiet_now : (IsHonest mid → All (λ file. IsQuietAt (get (account now).files file)) ids) → IsHonest now → AllQuiet (account now).files
+    quiet_now quiet honest = let before = honest_before honest in all_quiet (account old).files (account now).files ids (listed before) (there_as_before before) (quiet (same.kept before))
+
+-- the files that are to be synced are there
+pub can_sync : (old mid : Option Account) → Changes old mid (Reads 0) → (ids : List FileId) → (IsHonest old → ids ≡ keys (account old).files) → IsHonest mid → All (λ file. IsFileThere file (account mid).files) ids
+can_sync old mid same ids listed honest =
+    let before = same.back honest in
+    subst (λ files. All (λ file. IsFileThere file files) ids) (sym (same.step before).files) (all_there (account old).files ids (listed before))
+
+-- the answers, seen from the start
+module _ (old mid now : Option Account) (same : Changes old mid (Reads 0)) (synced : Changes mid now SyncsFiles) (result : Result Parts Fault) where
+  pub all_ill : IfErr result (IsIllFormed now) → IfErr result (IsIllFormed old)
+  all_ill = by result
+    where
+      by : (r : Result Parts Fault) → IfErr r (IsIllFormed now) → IfErr r (IsIllFormed old)
+      by (Ok parts) is = tt
+      by (Err e) is = opened_ill old mid now same synced e is
+
+  pub all_spent : (epochs : ℕ) → IfErr result (IsSpentAt epochs now) → IfErr result (IsSpentAt epochs old)
+  all_spent epochs = by result
+    where
+      by : (r : Result Parts Fault) → IfErr r (IsSpentAt epochs now) → IfErr r (IsSpentAt epochs old)
+      by (Ok parts) is = tt
+      by (Err e) is = opened_spent old mid now same synced epochs e is
+
+  pub all_recovered : (new : Option Account)
+      → IfOk result (λ parts. IsHonest now → (d : Durable) × FoldsTo (as_read (account now).files) d × (parts.durable ≡ raised d) × Owns parts.journal parts.durable (account new).files × AllQuiet (account new).files)
+      → IfOk result (λ parts. IsHonest old → (d : Durable) × FoldsTo (as_read (account old).files) d × (parts.durable ≡ raised d) × Owns parts.journal parts.durable (account new).files × AllQuiet (account new).files)
+  all_recovered new = by result
+    where
+      by : (r : Result Parts Fault)
+          → IfOk r (λ parts. IsHonest now → (d : Durable) × FoldsTo (as_read (account now).files) d × (parts.durable ≡ raised d) × Owns parts.journal parts.durable (account new).files × AllQuiet (account new).files)
+          → IfOk r (λ parts. IsHonest old → (d : Durable) × FoldsTo (as_read (account old).files) d × (parts.durable ≡ raised d) × Owns parts.journal parts.durable (account new).files × AllQuiet (account new).files)
+      by (Ok parts) is = recovered_first old mid now same synced new parts is
+      by (Err e) is = tt
+
+-- the moments, seen from the start
+module _ {D : Type 0} (moment : D → ℕ) (left_since : D → ℕ → Files → List ℕ → Type 0) (tells : D → Option Account) (old mid : D) (listing : Within moment left_since old mid (Leaves (tells old))) where
+  pub listing_moments : AllQuiet (account (tells old)).files → Within moment left_since old mid (LeavesOpened (tells old))
+  listing_moments quiet = weaker moment left_since old mid (Leaves (tells old)) (LeavesOpened (tells old)) listing (quiet_leaves (tells old) quiet)
+
+  module _ (same : Changes (tells old) (tells mid) (Reads 0)) (now : D) (syncing : Within moment left_since mid now (Leaves (tells mid))) where
+    sync_run : Within moment left_since old now (Leaves (tells old))
+    sync_run = then_run moment left_since old mid now (Leaves (tells old)) (Leaves (tells mid)) listing syncing (reads_leave (tells old) (tells mid) 0 same)
+
+    pub sync_moments : AllQuiet (account (tells old)).files → Within moment left_since old now (LeavesOpened (tells old))
+    sync_moments quiet = weaker moment left_since old now (Leaves (tells old)) (LeavesOpened (tells old)) sync_run (quiet_leaves (tells old) quiet)
+
+    module _ (synced : Changes (tells mid) (tells now) SyncsFiles) (new : D) (opening : Within moment left_since now new (LeavesOpened (tells now))) where
+      pub all_moments : AllQuiet (account (tells old)).files → Within moment left_since old new (LeavesOpened (tells old))
+      all_moments quiet = then_run moment left_since old now new (LeavesOpened (tells old)) (LeavesOpened (tells now)) (sync_moments quiet) opening (opened_leaves (tells old) (tells mid) (tells now) same synced)
+
+      -- from the moment on at which all is synced
+      pub moments_once_synced : WithinFrom moment left_since old new (LeavesOpened (tells old))
+      moments_once_synced = record {
+        first = moment now;
+        after = sync_run.later;
+        until = opening.later;
+        each = λ c b left. opened_leaves (tells old) (tells mid) (tells now) same synced c b (opening.each c b left);
+      }
+
+pub on_ok : {T E : Type 0} (r : Result T E) (P : Type 0) → P → OnOk r P
+on_ok (Ok x) P is = is
+on_ok (Err e) P is = tt

@@ -1,0 +1,41 @@
+use Rattle.std.proofs.lemmas.Result.{err_from_is_err_and}
+use Rattle.pg_disk.proofs.Runs.{then_run, weaker}
+use Rattle.pg_recover.proofs.OpenLemmas.{all_recovered, check_ill, check_spent, opens_then, raised_leaves, reads_open, ready, said_leaves}
+use Rattle.pg_recover.proofs.opening.open_synced.Goals as goal
+
+pub begin_epoch-requires : goal.begin_epoch-requires
+begin_epoch-requires g c = record {
+  ready = ready (g.D.Disk.tells c.args.disk.now) (g.D.Disk.tells c.read_journal.new.disk) c.read_journal.ensures.stays c.in_ok-journal.journal c.in_ok-journal.durable c.in_ok-journal.ensures.found c.args.files.now c.requires.listed;
+  next = c.in_ok-check_state.ensures.fits;
+  room = c.in_ok-check_state.ensures.room;
+}
+
+pub returns-in_err-journal-clause-any_moment : goal.returns-in_err-journal-clause-any_moment
+returns-in_err-journal-clause-any_moment g c = weaker g.D.Disk.moment g.D.Disk.left_since c.args.disk.now c.read_journal.new.disk _ _ c.read_journal.ensures.any_moment (said_leaves (g.D.Disk.tells c.args.disk.now))
+
+pub returns-in_err-check_state-clause-any_moment : goal.returns-in_err-check_state-clause-any_moment
+returns-in_err-check_state-clause-any_moment g c = weaker g.D.Disk.moment g.D.Disk.left_since c.args.disk.now c.read_journal.new.disk _ _ c.read_journal.ensures.any_moment (said_leaves (g.D.Disk.tells c.args.disk.now))
+
+pub returns-in_err-check_state-clause-damaged : goal.returns-in_err-check_state-clause-damaged
+returns-in_err-check_state-clause-damaged g c =
+    let is = err_from_is_err_and c.from_residual-in_err-check_state.result c.from_residual-in_err-check_state.ensures.1 in
+    rw (is.1, is.2) (check_ill (g.D.Disk.tells c.args.disk.now) (g.D.Disk.tells c.read_journal.new.disk) c.read_journal.ensures.stays c.in_ok-journal.journal c.in_ok-journal.durable c.in_ok-journal.ensures.found c.args.files.now c.requires.listed
+    c.args.limits.now.epochs c.in_err-check_state.field-0.0 c.in_err-check_state.ensures.unfit)
+
+pub returns-in_err-check_state-clause-spent : goal.returns-in_err-check_state-clause-spent
+returns-in_err-check_state-clause-spent g c =
+    let is = err_from_is_err_and c.from_residual-in_err-check_state.result c.from_residual-in_err-check_state.ensures.1 in
+    rw (is.1, is.2) (check_spent (g.D.Disk.tells c.args.disk.now) (g.D.Disk.tells c.read_journal.new.disk) c.read_journal.ensures.stays c.in_ok-journal.journal c.in_ok-journal.durable c.in_ok-journal.ensures.found c.args.files.now c.requires.listed
+    c.args.limits.now.epochs c.in_err-check_state.field-0.0 c.in_err-check_state.ensures.unfit)
+
+pub returns-clause-recovered : goal.returns-clause-recovered
+returns-clause-recovered g c =
+    all_recovered (g.D.Disk.tells c.args.disk.now) (g.D.Disk.tells c.read_journal.new.disk) c.read_journal.ensures.stays c.in_ok-journal.journal c.in_ok-journal.durable c.in_ok-journal.ensures.found
+    (g.D.Disk.tells c.begin_epoch.new.disk) c.begin_epoch.result c.begin_epoch.ensures.raised c.begin_epoch.ensures.owned
+
+pub returns-clause-any_moment : goal.returns-clause-any_moment
+returns-clause-any_moment g c =
+    then_run g.D.Disk.moment g.D.Disk.left_since c.args.disk.now c.read_journal.new.disk c.begin_epoch.new.disk _ _
+    (weaker g.D.Disk.moment g.D.Disk.left_since c.args.disk.now c.read_journal.new.disk _ _ c.read_journal.ensures.any_moment (said_leaves (g.D.Disk.tells c.args.disk.now)))
+    c.begin_epoch.ensures.any_moment
+    (raised_leaves (g.D.Disk.tells c.args.disk.now) (g.D.Disk.tells c.read_journal.new.disk) c.read_journal.ensures.stays c.in_ok-journal.journal c.in_ok-journal.durable c.in_ok-journal.ensures.found)

@@ -1,0 +1,64 @@
+use Rattle.std.proofs.Common.{◌≡◌, ◌∙◌, sym, subst}
+use Rattle.std.specs.FinMap.{get, keys}
+use Rattle.std.specs.List.{All}
+use Rattle.pg_disk.specs.declared.file_id.FileId.{FileId}
+use Rattle.pg_disk.specs.Account.{account, IsHonest}
+use Rattle.pg_disk.specs.Image.{IsFileThere}
+use Rattle.pg_gate.proofs.Reading.{one_read}
+use Rattle.pg_journal.specs.Stands.{IsQuietAt}
+use Rattle.pg_recover.proofs.OpenLemmas.{opens_then}
+use Rattle.pg_recover.proofs.RecoverLemmas.{all_ill, all_moments, all_recovered, all_spent, can_sync, listed_now, listing_moments, listing_opens, moments_once_synced, on_ok, quiet_now, sync_moments, sync_opens}
+use Rattle.pg_recover.proofs.opening.recover.Goals as goal
+
+pub sync_all-requires : goal.sync_all-requires
+sync_all-requires g c = λ honest.
+    subst (λ (ids : _). All (λ (file : FileId). IsFileThere file (account (g.D.Disk.tells c.list.new.self)).files) ids) (sym c.deref.ensures.value)
+    (can_sync (g.D.Disk.tells c.args.disk.now) (g.D.Disk.tells c.list.new.self) c.list.ensures.same c.in_ok-files.files.items c.in_ok-files.ensures.files honest)
+
+pub open_synced-requires : goal.open_synced-requires
+open_synced-requires g c = record {
+  listed = λ honest. c.deref-2.ensures.value
+      ∙ listed_now (g.D.Disk.tells c.args.disk.now) (g.D.Disk.tells c.list.new.self) (g.D.Disk.tells c.sync_all.new.disk) c.list.ensures.same c.sync_all.ensures.stays c.in_ok-files.files.items c.in_ok-files.ensures.files honest;
+  quiet = quiet_now (g.D.Disk.tells c.args.disk.now) (g.D.Disk.tells c.list.new.self) (g.D.Disk.tells c.sync_all.new.disk) c.list.ensures.same c.sync_all.ensures.stays c.in_ok-files.files.items c.in_ok-files.ensures.files
+      (λ honest. subst (λ (ids : _). All (λ (file : FileId). IsQuietAt (get (account (g.D.Disk.tells c.sync_all.new.disk)).files file)) ids) c.deref.ensures.value (c.in_ok-sync_all.ensures.quiet honest));
+}
+
+pub returns-in_err-files-clause-any_moment : goal.returns-in_err-files-clause-any_moment
+returns-in_err-files-clause-any_moment g c = λ honest.
+    listing_moments g.D.Disk.moment g.D.Disk.left_since g.D.Disk.tells c.args.disk.now c.list.new.self
+    (one_read g.D.Disk.moment g.D.Disk.left_since g.D.Disk.tells c.args.disk.now c.list.new.self (g.met.D.Disk.only_now c.args.disk.now) c.list.ensures.time)
+
+pub returns-in_err-sync_all-clause-any_moment : goal.returns-in_err-sync_all-clause-any_moment
+returns-in_err-sync_all-clause-any_moment g c = λ honest.
+    sync_moments g.D.Disk.moment g.D.Disk.left_since g.D.Disk.tells c.args.disk.now c.list.new.self
+    (one_read g.D.Disk.moment g.D.Disk.left_since g.D.Disk.tells c.args.disk.now c.list.new.self (g.met.D.Disk.only_now c.args.disk.now) c.list.ensures.time)
+    c.list.ensures.same c.sync_all.new.disk c.sync_all.ensures.any_moment
+
+pub returns-clause-recovered : goal.returns-clause-recovered
+returns-clause-recovered g c =
+    all_recovered (g.D.Disk.tells c.args.disk.now) (g.D.Disk.tells c.list.new.self) (g.D.Disk.tells c.sync_all.new.disk) c.list.ensures.same c.sync_all.ensures.stays c.open_synced.result (g.D.Disk.tells c.open_synced.new.disk) c.open_synced.ensures.recovered
+
+pub returns-clause-stays : goal.returns-clause-stays
+returns-clause-stays g c =
+    opens_then (g.D.Disk.tells c.args.disk.now) (g.D.Disk.tells c.sync_all.new.disk) (g.D.Disk.tells c.open_synced.new.disk)
+    (sync_opens (g.D.Disk.tells c.args.disk.now) (g.D.Disk.tells c.list.new.self) (g.D.Disk.tells c.sync_all.new.disk) c.list.ensures.same c.sync_all.ensures.stays) c.open_synced.ensures.stays
+
+pub returns-clause-any_moment : goal.returns-clause-any_moment
+returns-clause-any_moment g c = λ honest.
+    all_moments g.D.Disk.moment g.D.Disk.left_since g.D.Disk.tells c.args.disk.now c.list.new.self
+    (one_read g.D.Disk.moment g.D.Disk.left_since g.D.Disk.tells c.args.disk.now c.list.new.self (g.met.D.Disk.only_now c.args.disk.now) c.list.ensures.time)
+    c.list.ensures.same c.sync_all.new.disk c.sync_all.ensures.any_moment c.sync_all.ensures.stays c.open_synced.new.disk c.open_synced.ensures.any_moment
+
+pub returns-clause-once_quiet : goal.returns-clause-once_quiet
+returns-clause-once_quiet g c =
+    on_ok c.open_synced.result _ (moments_once_synced g.D.Disk.moment g.D.Disk.left_since g.D.Disk.tells c.args.disk.now c.list.new.self
+    (one_read g.D.Disk.moment g.D.Disk.left_since g.D.Disk.tells c.args.disk.now c.list.new.self (g.met.D.Disk.only_now c.args.disk.now) c.list.ensures.time)
+    c.list.ensures.same c.sync_all.new.disk c.sync_all.ensures.any_moment c.sync_all.ensures.stays c.open_synced.new.disk c.open_synced.ensures.any_moment)
+
+pub returns-clause-damaged : goal.returns-clause-damaged
+returns-clause-damaged g c =
+    all_ill (g.D.Disk.tells c.args.disk.now) (g.D.Disk.tells c.list.new.self) (g.D.Disk.tells c.sync_all.new.disk) c.list.ensures.same c.sync_all.ensures.stays c.open_synced.result c.open_synced.ensures.damaged
+
+pub returns-clause-spent : goal.returns-clause-spent
+returns-clause-spent g c =
+    all_spent (g.D.Disk.tells c.args.disk.now) (g.D.Disk.tells c.list.new.self) (g.D.Disk.tells c.sync_all.new.disk) c.list.ensures.same c.sync_all.ensures.stays c.open_synced.result c.args.limits.now.epochs c.open_synced.ensures.spent

@@ -1,0 +1,11 @@
+pub mod Broker
+pub mod Denotation
+pub mod Folding
+pub mod Listing
+pub mod Places
+pub mod Recovered
+pub mod Raising
+pub mod Removing
+pub mod Said
+pub mod Syncing
+pub mod WellFormed

@@ -1,0 +1,73 @@
+-- What an opening comes to, and what a crash within it leaves.
+use Rattle.std.specs.Prelude.{◌≡◌, ◌≢◌, ◌⊎◌, ◌≤◌, ◌<◌, ◌+◌, ◌^◌, ℕ, List, length, Option, Some, None}
+use Rattle.std.specs.FinMap.{FinMap, get}
+use Rattle.pg_disk.specs.declared.fault.Fault.{Fault}
+use Rattle.pg_disk.specs.declared.fault.Fault.TheVariants.{Failed, Damaged, Spent, Memory}
+use Rattle.pg_disk.specs.declared.file_id.FileId.{FileId}
+use Rattle.pg_disk.specs.declared.file_id.Kind.TheVariants.{Journal as OfJournal}
+use Rattle.pg_disk.specs.Account.{FileState, Account, account, IsHonest}
+use Rattle.pg_disk.specs.Files.{file_cmp, Files}
+use Rattle.pg_gate.specs.Gated.{opened}
+use Rattle.pg_records.specs.declared.entry.Entry.{Entry}
+use Rattle.pg_records.specs.Entries.{SpellBatches}
+use Rattle.pg_fold.specs.declared.durable.Durable.{Durable}
+use Rattle.pg_fold.specs.Fold.{fold, fresh}
+use Rattle.pg_journal.specs.declared.journal.Journal.{Journal}
+use Rattle.pg_journal.specs.Generations.{as_read, as_left, bytes_of}
+use Rattle.pg_journal.specs.Stands.{IsQuietAt, Stands, name_of}
+use Rattle.pg_recover.specs.Denotation.{FoldsTo, raised}
+use Rattle.pg_recover.specs.WellFormed.{WellFormed}
+
+-- nothing of any file is pending
+abbrev pub AllQuiet : FinMap file_cmp FileState → Type 0
+AllQuiet files = (file : FileId) → IsQuietAt (get files file)
+
+-- Among these files the journal stands for batches that spell entries which give the state, and no other generation is there.
+pub record Owns (journal : Journal) (durable : Durable) (files : FinMap file_cmp FileState) : Type 0 where
+  pub batches : List (List ℕ)
+  pub entries : List Entry
+  pub stands : Stands journal batches files
+  pub spelled : SpellBatches batches entries
+  pub folded : fold fresh entries ≡ Some durable
+  pub alone : (file : FileId) → file.kind ≡ OfJournal → file ≢ name_of journal → get files file ≡ None
+
+-- The state that the journal gives is that from before, or that in the next epoch.
+pub record LeavesOpened (tells : Option Account) (image : Files) (told : List ℕ) : Type 0 where
+  pub honest : IsHonest tells
+  pub nothing : told ≡ (account tells).told
+  pub denotes : (d : Durable) → FoldsTo (as_read (account tells).files) d → FoldsTo (as_left image) d ⊎ FoldsTo (as_left image) (raised d)
+
+-- Bytes were read, nothing was told, and each file that is no generation of the journal has the bytes that it had.
+pub record OpensFiles (old new : Account) : Type 0 where
+  pub told : new.told ≡ old.told
+  pub taken : old.taken ≤ new.taken
+  pub others : (file : FileId) → file.kind ≢ OfJournal → bytes_of (get new.files file) ≡ bytes_of (get old.files file)
+
+-- the files weren't well formed
+abbrev pub AreIllFormed : Option Account → Type 0
+AreIllFormed tells = IsHonest tells → WellFormed (as_read (account tells).files) → ⊥
+
+-- damage is that
+abbrev pub IsIllFormed : Option Account → Fault → Type 0
+IsIllFormed tells Failed = Unit {0}
+IsIllFormed tells (Damaged damage) = AreIllFormed tells
+IsIllFormed tells Spent = Unit {0}
+IsIllFormed tells Memory = Unit {0}
+
+-- no epoch is left below this, or the journal has no room for the 14 bytes of one more and its gate
+pub record HasNoEpoch (epochs : ℕ) (files : FinMap file_cmp FileState) : Type 0 where
+  pub state : Durable
+  pub folds : FoldsTo (as_read files) state
+  pub spent : (epochs ≤ state.epoch + 1) ⊎ (2 ^ 62 < length (opened folds.batches) + 15)
+
+-- a limit is passed where there is no next epoch
+abbrev pub IsSpentAt : ℕ → Option Account → Fault → Type 0
+IsSpentAt epochs tells Failed = Unit {0}
+IsSpentAt epochs tells (Damaged damage) = Unit {0}
+IsSpentAt epochs tells Spent = IsHonest tells → HasNoEpoch epochs (account tells).files
+IsSpentAt epochs tells Memory = Unit {0}
+
+-- there is a next epoch below this, and it isn't the first
+pub record IsEpoch (epochs epoch : ℕ) : Type 0 where
+  pub begun : 1 ≤ epoch
+  pub below : epoch < epochs

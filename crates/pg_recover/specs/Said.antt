@@ -1,0 +1,29 @@
+-- What is read of the journal, and what a crash leaves meanwhile.
+use Rattle.std.specs.Prelude.{◌≡◌, ◌≢◌, ℕ, List, Option}
+use Rattle.std.specs.FinMap.{FinMap, get}
+use Rattle.pg_disk.specs.declared.file_id.FileId.{FileId}
+use Rattle.pg_disk.specs.declared.file_id.Kind.TheVariants.{Journal as OfJournal}
+use Rattle.pg_disk.specs.Account.{FileState, Account, account, IsHonest}
+use Rattle.pg_disk.specs.Files.{file_cmp, Files}
+use Rattle.pg_fold.specs.declared.durable.Durable.{Durable}
+use Rattle.pg_fold.specs.Fold.{fresh}
+use Rattle.pg_journal.specs.declared.journal.Journal.{Journal}
+use Rattle.pg_journal.specs.Generations.{as_read, as_left, JournalOf}
+use Rattle.pg_journal.specs.Stands.{Stands, StaysOrSettles, name_of}
+use Rattle.pg_recover.specs.Folding.{FoldsFrom}
+use Rattle.pg_recover.specs.Recovered.{AllQuiet}
+
+-- the journal says what it said
+pub record LeavesSaid (tells : Option Account) (image : Files) (told : List ℕ) : Type 0 where
+  pub honest : IsHonest tells
+  pub nothing : told ≡ (account tells).told
+  pub says : (batches : List (List ℕ)) → JournalOf (as_read (account tells).files) batches → JournalOf (as_left image) batches
+
+-- the journal that was found stands for what it said, and its batches lead to the state
+pub record IsReadFrom (journal : Journal) (durable : Durable) (old now : FinMap file_cmp FileState) : Type 0 where
+  pub batches : List (List ℕ)
+  pub says : JournalOf (as_read old) batches
+  pub stands : Stands journal batches now
+  pub folds : FoldsFrom fresh batches durable
+  pub others : (file : FileId) → file.kind ≡ OfJournal → file ≢ name_of journal → StaysOrSettles (get old file) (get now file)
+  pub quiet : AllQuiet now

@@ -1,0 +1,86 @@
+// The next epoch is begun.
+ghost use Rattle.std.specs.Prelude.{◌≡◌, ◌<◌, ◌≤◌, ◌+◌, ◌^◌, None, IfOk, IfErr, OnOk};
+ghost use Rattle.pg_disk.specs.Account.{account, IsHonest};
+ghost use Rattle.pg_disk.specs.Calls.{Changes};
+ghost use Rattle.pg_disk.specs.Counts.{CountsFault};
+ghost use Rattle.pg_disk.specs.Moments.{Within};
+ghost use Rattle.pg_journal.specs.Stands.{counted};
+ghost use Rattle.pg_recover.specs.Denotation.{raised};
+ghost use Rattle.pg_recover.specs.Folding.{IsFit};
+ghost use Rattle.pg_recover.specs.Listing.{AreListed};
+ghost use Rattle.pg_recover.specs.Raising.{IsFailedOrMemory, IsReady, IsUnfit, LeavesRaised};
+ghost use Rattle.pg_recover.specs.Recovered.{AllQuiet, OpensFiles, Owns};
+ghost use Rattle.pg_recover.specs.WellFormed.{AreRoomy};
+
+use crate::listing::listing_damage;
+use crate::opening::Parts;
+use crate::removing::remove_others;
+use crate::room::is_roomy;
+use pg_disk::{Damage, Disk, Fault, FileId, Rule};
+use pg_fold::Durable;
+use pg_journal::Journal;
+use pg_msg::Limits;
+use pg_records::{Entry, encode_batch};
+use std::alloc::Global;
+
+// The greatest counted length, in bytes, of a journal that has room for the batch of an epoch.
+const FULL: u64 = (1 << 62) - 14;
+
+// Whether the state may stand beside these files, and has a next epoch.
+pub(crate) fn check_state(
+    alloc: Global,
+    files: &[FileId],
+    journal: &Journal,
+    durable: &Durable,
+    limits: &Limits,
+) -> Result<(), Fault>
+    requires { IsFit durable.now }
+    ensures listed { OnOk result (AreListed durable.now.addresses None files.now) }
+    ensures roomy { OnOk result (AreRoomy durable.now) }
+    ensures next { OnOk result (durable.now.epoch + 1 < limits.now.epochs) }
+    ensures fits { OnOk result (durable.now.epoch + 1 < 2 ^ 32) }
+    ensures room { OnOk result (counted journal.now + 14 ≤ 2 ^ 62) }
+    ensures unfit { IfErr result (IsUnfit files.now journal.now durable.now limits.now.epochs) }
+{
+    if let Some(damage) = listing_damage(files, durable.addresses.as_slice()) {
+        return Err(Fault::Damaged(damage));
+    }
+    if !is_roomy(alloc, durable)? {
+        return Err(Fault::Damaged(Damage {
+            file: journal.file(),
+            at: 0,
+            rule: Rule::Room,
+        }));
+    }
+    if limits.epochs.saturating_sub(1) <= durable.epoch || journal.length() > FULL {
+        return Err(Fault::Spent);
+    }
+    Ok(())
+}
+
+// Removes the other generations, and adds the batch of the next epoch.
+pub(crate) fn begin_epoch<D: Disk>(
+    alloc: Global,
+    disk: &mut D,
+    files: &[FileId],
+    journal: Journal,
+    mut durable: Durable,
+) -> Result<Parts, Fault>
+    requires ready { IsHonest (D.tells disk.old) → IsReady journal durable files.now (account (D.tells disk.old)).files }
+    requires next { durable.epoch + 1 < 2 ^ 32 }
+    requires room { counted journal + 14 ≤ 2 ^ 62 }
+    ensures raised { IfOk result (λ parts. parts.durable ≡ raised durable) }
+    ensures owned { IfOk result (λ parts. IsHonest (D.tells disk.old) →
+        Owns parts.journal parts.durable (account (D.tells disk.new)).files × AllQuiet (account (D.tells disk.new)).files) }
+    ensures stays { Changes (D.tells disk.old) (D.tells disk.new) OpensFiles }
+    ensures any_moment { Within D.moment D.left_since disk.old disk.new (LeavesRaised journal durable (D.tells disk.old)) }
+    ensures only { IfErr result IsFailedOrMemory }
+    ensures cause { CountsFault (D.faults disk.old) (D.faults disk.new) result }
+{
+    let epoch = durable.epoch + 1;
+    let batch = encode_batch(alloc, &[Entry::Epoch { epoch }])?;
+    remove_others(disk, files, journal.file())?;
+    let journal = journal.append(disk, &batch)?;
+    durable.epoch = epoch;
+    Ok(Parts { journal, durable })
+}

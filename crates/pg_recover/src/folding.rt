@@ -1,0 +1,88 @@
+// Payload after payload is decoded, and entry after entry applied.
+ghost use Rattle.std.specs.Prelude.{◌≡◌, Some, None, length, IfOk, IfErr};
+ghost use Rattle.pg_records.specs.Entries.{HaveFields};
+ghost use Rattle.pg_fold.specs.declared.durable.Durable.{Durable as State};
+ghost use Rattle.pg_fold.specs.Fold.{fold};
+ghost use Rattle.pg_recover.specs.Folding.{FoldsFrom, FoldsNowhere, FoldsPayload, IsBroken, IsDamage, IsFit};
+ghost use Rattle.pg_recover.specs.Places.{Covers, payloads_from};
+
+use crate::grouping::payload_in;
+use pg_disk::{Damage, Fault, FileId, Rule};
+use pg_fold::{Durable, FoldError};
+use pg_gate::Span;
+use pg_records::{Entry, decode_batch};
+use std::alloc::Global;
+
+// Applies the entries in their order.
+fn fold_entries(
+    alloc: Global,
+    entries: Vec<Entry>,
+    mut durable: Durable,
+) -> Result<Durable, FoldError>
+    requires fields { HaveFields entries.items }
+    requires fit { IsFit durable }
+    ensures folded { IfOk result (λ after. fold durable entries.items ≡ Some after) }
+    ensures fit { IfOk result IsFit }
+    ensures broken { IfErr result (IsBroken (fold durable entries.items ≡ None)) }
+{
+    for entry in entries {
+        durable = durable.apply(alloc, entry)?;
+    }
+    Ok(durable)
+}
+
+// Applies the entries that the payload spells.
+fn fold_payload(alloc: Global, payload: &[u8], durable: Durable) -> Result<Durable, FoldError>
+    requires { IsFit durable }
+    ensures folded { IfOk result (FoldsPayload durable payload.now) }
+    ensures fit { IfOk result IsFit }
+    ensures broken { IfErr result (IsBroken ((after : State) → ¬ FoldsPayload durable payload.now after)) }
+{
+    match decode_batch(alloc, payload)? {
+        Some(entries) => fold_entries(alloc, entries, durable),
+        None => Err(FoldError::Broken(Rule::Spelling)),
+    }
+}
+
+// The same of the payload at this offset of the file.
+fn fold_placed(
+    alloc: Global,
+    file: FileId,
+    at: u64,
+    payload: &[u8],
+    durable: Durable,
+) -> Result<Durable, Fault>
+    requires { IsFit durable }
+    ensures folded { IfOk result (FoldsPayload durable payload.now) }
+    ensures fit { IfOk result IsFit }
+    ensures damaged { IfErr result (IsDamage ((after : State) → ¬ FoldsPayload durable payload.now after)) }
+{
+    match fold_payload(alloc, payload, durable) {
+        Ok(after) => Ok(after),
+        Err(FoldError::Broken(rule)) => Err(Fault::Damaged(Damage { file, at, rule })),
+        Err(FoldError::Memory) => Err(Fault::Memory),
+    }
+}
+
+// Applies the entries of the payloads at these places, whose bytes were read together.
+pub(crate) fn fold_group(
+    alloc: Global,
+    file: FileId,
+    bytes: &[u8],
+    cover: Span,
+    spans: &[Span],
+    mut durable: Durable,
+) -> Result<Durable, Fault>
+    requires size { length bytes.now ≡ cover.length }
+    requires covers { Covers cover spans.now }
+    requires fit { IsFit durable }
+    ensures folded { IfOk result (FoldsFrom durable (payloads_from cover.at bytes.now spans.now)) }
+    ensures fit { IfOk result IsFit }
+    ensures damaged { IfErr result (IsDamage (FoldsNowhere durable (payloads_from cover.at bytes.now spans.now))) }
+{
+    for span in spans {
+        let payload = payload_in(bytes, cover, *span);
+        durable = fold_placed(alloc, file, span.at, payload, durable)?;
+    }
+    Ok(durable)
+}

@@ -1,0 +1,16 @@
+//! Opening: what the files of a directory denote, made the state of a broker in the next epoch.
+#![tactic(auto)]
+
+mod epochs;
+mod folding;
+mod grouping;
+mod listing;
+mod opening;
+mod reading;
+mod removing;
+mod room;
+mod syncing;
+#[cfg(test)]
+mod tests;
+
+pub use opening::{Parts, recover};

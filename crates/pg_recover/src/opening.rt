@@ -1,0 +1,83 @@
+// Opening over the files of a directory.
+ghost use Rattle.std.specs.Prelude.{◌≡◌, IfOk, IfErr, OnOk};
+ghost use Rattle.std.specs.FinMap.{keys};
+ghost use Rattle.pg_disk.specs.Account.{account, IsHonest};
+ghost use Rattle.pg_disk.specs.Calls.{Changes};
+ghost use Rattle.pg_disk.specs.Counts.{CountsFault};
+ghost use Rattle.pg_disk.specs.Moments.{Within, WithinFrom};
+ghost use Rattle.pg_journal.specs.Generations.{as_read};
+ghost use Rattle.pg_recover.specs.Denotation.{FoldsTo, raised};
+ghost use Rattle.pg_recover.specs.Recovered.{AllQuiet, IsEpoch, IsIllFormed, IsSpentAt, LeavesOpened, OpensFiles, Owns};
+ghost use Rattle.pg_recover.specs.WellFormed.{AreRoomy};
+
+use crate::epochs::{begin_epoch, check_state};
+use crate::reading::read_journal;
+use crate::syncing::sync_all;
+use pg_disk::{Disk, Fault, FileId};
+use pg_fold::Durable;
+use pg_journal::Journal;
+use pg_msg::Limits;
+use std::alloc::Global;
+
+/// What an opening gives: the journal at rest, and the state in the epoch that was begun.
+#[derive(Debug, Drop)]
+pub struct Parts {
+    pub journal: Journal,
+    pub durable: Durable,
+}
+
+// Opens over files of which nothing is pending.
+fn open_synced<D: Disk>(
+    alloc: Global,
+    disk: &mut D,
+    files: &[FileId],
+    limits: &Limits,
+) -> Result<Parts, Fault>
+    requires listed { IsHonest (D.tells disk.old) → files.now ≡ keys (account (D.tells disk.old)).files }
+    requires quiet { IsHonest (D.tells disk.old) → AllQuiet (account (D.tells disk.old)).files }
+    ensures recovered { IfOk result (λ parts. IsHonest (D.tells disk.old) → (d : _) × FoldsTo (as_read (account (D.tells disk.old)).files) d
+        × (parts.durable ≡ raised d) × Owns parts.journal parts.durable (account (D.tells disk.new)).files × AllQuiet (account (D.tells disk.new)).files) }
+    ensures roomy { IfOk result (λ parts. AreRoomy parts.durable) }
+    ensures epoch { IfOk result (λ parts. IsEpoch limits.now.epochs parts.durable.epoch) }
+    ensures stays { Changes (D.tells disk.old) (D.tells disk.new) OpensFiles }
+    ensures any_moment { Within D.moment D.left_since disk.old disk.new (LeavesOpened (D.tells disk.old)) }
+    ensures damaged { IfErr result (IsIllFormed (D.tells disk.old)) }
+    ensures spent { IfErr result (IsSpentAt limits.now.epochs (D.tells disk.old)) }
+    ensures cause { CountsFault (D.faults disk.old) (D.faults disk.new) result }
+{
+    let (journal, durable) = read_journal(alloc, disk)?;
+    check_state(alloc, files, &journal, &durable, limits)?;
+    begin_epoch(alloc, disk, files, journal, durable)
+}
+
+/// Opens over whatever files are there: syncs every file, reads the journal, removes its other generations, and begins
+/// the next epoch, which is one greater. Pages and large files aren't read or changed.
+///
+/// `Damaged` comes where the files aren't well formed, with the place and the rule: `Cut` with the gate's offset where a
+/// generation is cut, `Spelling` or the rule of an entry with the payload's offset, `Name` and `Gap` with 0 where a file
+/// can't have its name beside the state, and `Room` with 0 of the journal. `Spent` comes where the epoch would be
+/// `limits.epochs` or more, or the journal would grow past 2^62 bytes. Until then the first generation may have been
+/// laid or a generation of at most one byte mended, and nothing else was written. The other errors are that the disk
+/// failed and that there was no memory; after an Err the files have to be opened anew.
+///
+/// The journal is read once, in pieces of up to 64 KiB. `docs/FORMATS.md` says what the files have in them.
+pub fn recover<D: Disk>(alloc: Global, disk: &mut D, limits: &Limits) -> Result<Parts, Fault>
+    ensures recovered { IfOk result (λ parts. IsHonest (D.tells disk.old) → (d : _) × FoldsTo (as_read (account (D.tells disk.old)).files) d
+        × (parts.durable ≡ raised d) × Owns parts.journal parts.durable (account (D.tells disk.new)).files × AllQuiet (account (D.tells disk.new)).files) }
+    ensures roomy { IfOk result (λ parts. AreRoomy parts.durable) }
+    ensures epoch { IfOk result (λ parts. IsEpoch limits.now.epochs parts.durable.epoch) }
+    ensures stays { Changes (D.tells disk.old) (D.tells disk.new) OpensFiles }
+    // A crash at any moment leaves the state from before, or that in the next epoch.
+    ensures any_moment { IsHonest (D.tells disk.old) → AllQuiet (account (D.tells disk.old)).files →
+        Within D.moment D.left_since disk.old disk.new (LeavesOpened (D.tells disk.old)) }
+    // Where something was pending, that is so from some moment on.
+    ensures once_quiet { OnOk result (WithinFrom D.moment D.left_since disk.old disk.new (LeavesOpened (D.tells disk.old))) }
+
+    ensures damaged { IfErr result (IsIllFormed (D.tells disk.old)) }
+    ensures spent { IfErr result (IsSpentAt limits.now.epochs (D.tells disk.old)) }
+    ensures cause { CountsFault (D.faults disk.old) (D.faults disk.new) result }
+{
+    let files = disk.list(alloc)?;
+    sync_all(disk, &files)?;
+    open_synced(alloc, disk, &files, limits)
+}
