@@ -15,6 +15,6 @@ pub use addresses::AddressRows;
 pub use durable::Durable;
 pub use fold_error::FoldError;
 pub use journaled::JournaledRows;
-pub use laws::fold_in_parts;
+pub use laws::{fold_in_parts, folded_is_sound};
 pub use queues::QueueRows;
 pub use rows::{AddressRow, JournaledRow, QueueRow};

@@ -1,15 +1,13 @@
 -- Payload after payload is folded.
-use Rattle.std.specs.Prelude.{◌≡◌, ◌≤◌, ℕ, List, All, Option, Some, None}
+use Rattle.std.specs.Prelude.{◌≡◌, ℕ, List, Option, Some, None}
 use Rattle.pg_disk.specs.declared.fault.Fault.{Fault}
 use Rattle.pg_disk.specs.declared.fault.Fault.TheVariants.{Failed, Damaged, Spent, Memory}
-use Rattle.pg_msg.specs.Messages.{HasFields as MessageHasFields}
 use Rattle.pg_records.specs.declared.entry.Entry.{Entry}
 use Rattle.pg_records.specs.Entries.{SpellsBatch, SpellBatches}
 use Rattle.pg_fold.specs.declared.durable.Durable.{Durable}
 use Rattle.pg_fold.specs.declared.fold_error.FoldError.{FoldError}
 use Rattle.pg_fold.specs.declared.fold_error.FoldError.TheVariants.{Broken, Memory as NoMemory}
 use Rattle.pg_fold.specs.Fold.{fold}
-use Rattle.pg_fold.specs.Rows.{AreNumbered}
 
 -- the payload spells entries which lead from the one state to the other
 pub record FoldsPayload (d : Durable) (payload : List ℕ) (after : Durable) : Type 0 where
@@ -31,12 +29,6 @@ FoldsNowhere d payloads = (after : Durable) → FoldsFrom d payloads after → �
 pub record AreAlike (d : Durable) (payloads : List (List ℕ)) (e : Durable) (others : List (List ℕ)) : Type 0 where
   pub forth : (after : Durable) → FoldsFrom d payloads after → FoldsFrom e others after
   pub back : (after : Durable) → FoldsFrom e others after → FoldsFrom d payloads after
-
--- each address has its place for id and a limit in its range, and each message can be weighed
-pub record IsFit (d : Durable) : Type 0 where
-  pub numbered : AreNumbered d.addresses
-  pub limited : All (λ row. row.max ≤ 1000000000000) d.addresses
-  pub messages : All (λ row. MessageHasFields row.message) d.journaled
 
 -- an entry's condition fails only where this holds
 abbrev pub IsBroken : Type 0 → FoldError → Type 0

@@ -12,11 +12,18 @@ use Rattle.pg_records.specs.declared.entry.Entry.{Entry}
 use Rattle.pg_records.specs.Entries.{SpellBatches}
 use Rattle.pg_fold.specs.declared.durable.Durable.{Durable}
 use Rattle.pg_fold.specs.Fold.{fold, fresh}
+use Rattle.pg_fold.specs.Sound.{IsSound}
 use Rattle.pg_journal.specs.declared.journal.Journal.{Journal}
 use Rattle.pg_journal.specs.Generations.{as_read, as_left, bytes_of}
 use Rattle.pg_journal.specs.Stands.{IsQuietAt, Stands, name_of}
 use Rattle.pg_recover.specs.Denotation.{FoldsTo, raised}
 use Rattle.pg_recover.specs.WellFormed.{WellFormed}
+
+-- a sound state in the next epoch, of which there is no message yet
+pub record IsBegun (durable : Durable) : Type 0 where
+  pub before : Durable
+  pub sound : IsSound before
+  pub is : durable ≡ raised before
 
 -- nothing of any file is pending
 abbrev pub AllQuiet : FinMap file_cmp FileState → Type 0
@@ -31,11 +38,15 @@ pub record Owns (journal : Journal) (durable : Durable) (files : FinMap file_cmp
   pub folded : fold fresh entries ≡ Some durable
   pub alone : (file : FileId) → file.kind ≡ OfJournal → file ≢ name_of journal → get files file ≡ None
 
--- The state that the journal gives is that from before, or that in the next epoch.
-pub record LeavesOpened (tells : Option Account) (image : Files) (told : List ℕ) : Type 0 where
+-- Nothing was told, and where that is asked, the state that the journal gives is that from before, or that in the next epoch.
+pub record LeavesOpened (asked : Type 0) (tells : Option Account) (image : Files) (told : List ℕ) : Type 0 where
   pub honest : IsHonest tells
   pub nothing : told ≡ (account tells).told
-  pub denotes : (d : Durable) → FoldsTo (as_read (account tells).files) d → FoldsTo (as_left image) d ⊎ FoldsTo (as_left image) (raised d)
+  pub denotes : asked → (d : Durable) → FoldsTo (as_read (account tells).files) d → FoldsTo (as_left image) d ⊎ FoldsTo (as_left image) (raised d)
+
+-- nothing is pending at the beginning
+abbrev pub BeganQuiet : Option Account → Type 0
+BeganQuiet tells = AllQuiet (account tells).files
 
 -- Bytes were read, nothing was told, and each file that is no generation of the journal has the bytes that it had.
 pub record OpensFiles (old new : Account) : Type 0 where

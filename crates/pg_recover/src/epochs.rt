@@ -6,7 +6,7 @@ ghost use Rattle.pg_disk.specs.Counts.{CountsFault};
 ghost use Rattle.pg_disk.specs.Moments.{Within};
 ghost use Rattle.pg_journal.specs.Stands.{counted};
 ghost use Rattle.pg_recover.specs.Denotation.{raised};
-ghost use Rattle.pg_recover.specs.Folding.{IsFit};
+ghost use Rattle.pg_fold.specs.Sound.{IsSound};
 ghost use Rattle.pg_recover.specs.Listing.{AreListed};
 ghost use Rattle.pg_recover.specs.Raising.{IsFailedOrMemory, IsReady, IsUnfit, LeavesRaised};
 ghost use Rattle.pg_recover.specs.Recovered.{AllQuiet, OpensFiles, Owns};
@@ -34,7 +34,7 @@ pub(crate) fn check_state(
     durable: &Durable,
     limits: &Limits,
 ) -> Result<(), Fault>
-    requires { IsFit durable.now }
+    requires { IsSound durable.now }
     ensures listed { OnOk result (AreListed durable.now.addresses None files.now) }
     ensures roomy { OnOk result (AreRoomy durable.now) }
     ensures next { OnOk result (durable.now.epoch + 1 < limits.now.epochs) }

@@ -3,7 +3,8 @@ ghost use Rattle.std.specs.Prelude.{◌≡◌, Some, None, length, IfOk, IfErr};
 ghost use Rattle.pg_records.specs.Entries.{HaveFields};
 ghost use Rattle.pg_fold.specs.declared.durable.Durable.{Durable as State};
 ghost use Rattle.pg_fold.specs.Fold.{fold};
-ghost use Rattle.pg_recover.specs.Folding.{FoldsFrom, FoldsNowhere, FoldsPayload, IsBroken, IsDamage, IsFit};
+ghost use Rattle.pg_fold.specs.Sound.{IsSound};
+ghost use Rattle.pg_recover.specs.Folding.{FoldsFrom, FoldsNowhere, FoldsPayload, IsBroken, IsDamage};
 ghost use Rattle.pg_recover.specs.Places.{Covers, payloads_from};
 
 use crate::grouping::payload_in;
@@ -20,9 +21,9 @@ fn fold_entries(
     mut durable: Durable,
 ) -> Result<Durable, FoldError>
     requires fields { HaveFields entries.items }
-    requires fit { IsFit durable }
+    requires sound { IsSound durable }
     ensures folded { IfOk result (λ after. fold durable entries.items ≡ Some after) }
-    ensures fit { IfOk result IsFit }
+    ensures sound { IfOk result IsSound }
     ensures broken { IfErr result (IsBroken (fold durable entries.items ≡ None)) }
 {
     for entry in entries {
@@ -33,9 +34,9 @@ fn fold_entries(
 
 // Applies the entries that the payload spells.
 fn fold_payload(alloc: Global, payload: &[u8], durable: Durable) -> Result<Durable, FoldError>
-    requires { IsFit durable }
+    requires { IsSound durable }
     ensures folded { IfOk result (FoldsPayload durable payload.now) }
-    ensures fit { IfOk result IsFit }
+    ensures sound { IfOk result IsSound }
     ensures broken { IfErr result (IsBroken ((after : State) → ¬ FoldsPayload durable payload.now after)) }
 {
     match decode_batch(alloc, payload)? {
@@ -52,9 +53,9 @@ fn fold_placed(
     payload: &[u8],
     durable: Durable,
 ) -> Result<Durable, Fault>
-    requires { IsFit durable }
+    requires { IsSound durable }
     ensures folded { IfOk result (FoldsPayload durable payload.now) }
-    ensures fit { IfOk result IsFit }
+    ensures sound { IfOk result IsSound }
     ensures damaged { IfErr result (IsDamage ((after : State) → ¬ FoldsPayload durable payload.now after)) }
 {
     match fold_payload(alloc, payload, durable) {
@@ -75,9 +76,9 @@ pub(crate) fn fold_group(
 ) -> Result<Durable, Fault>
     requires size { length bytes.now ≡ cover.length }
     requires covers { Covers cover spans.now }
-    requires fit { IsFit durable }
+    requires sound { IsSound durable }
     ensures folded { IfOk result (FoldsFrom durable (payloads_from cover.at bytes.now spans.now)) }
-    ensures fit { IfOk result IsFit }
+    ensures sound { IfOk result IsSound }
     ensures damaged { IfErr result (IsDamage (FoldsNowhere durable (payloads_from cover.at bytes.now spans.now))) }
 {
     for span in spans {

@@ -14,3 +14,4 @@ mod syncing;
 mod tests;
 
 pub use opening::{Parts, recover};
+pub use room::weights_by_address;

@@ -7,7 +7,7 @@ ghost use Rattle.pg_disk.specs.Counts.{CountsFault};
 ghost use Rattle.pg_disk.specs.Moments.{Within, WithinFrom};
 ghost use Rattle.pg_journal.specs.Generations.{as_read};
 ghost use Rattle.pg_recover.specs.Denotation.{FoldsTo, raised};
-ghost use Rattle.pg_recover.specs.Recovered.{AllQuiet, IsEpoch, IsIllFormed, IsSpentAt, LeavesOpened, OpensFiles, Owns};
+ghost use Rattle.pg_recover.specs.Recovered.{AllQuiet, BeganQuiet, IsBegun, HasNoEpoch, IsEpoch, IsIllFormed, IsSpentAt, LeavesOpened, OpensFiles, Owns};
 ghost use Rattle.pg_recover.specs.WellFormed.{AreRoomy};
 
 use crate::epochs::{begin_epoch, check_state};
@@ -37,12 +37,14 @@ fn open_synced<D: Disk>(
     requires quiet { IsHonest (D.tells disk.old) → AllQuiet (account (D.tells disk.old)).files }
     ensures recovered { IfOk result (λ parts. IsHonest (D.tells disk.old) → (d : _) × FoldsTo (as_read (account (D.tells disk.old)).files) d
         × (parts.durable ≡ raised d) × Owns parts.journal parts.durable (account (D.tells disk.new)).files × AllQuiet (account (D.tells disk.new)).files) }
+    ensures begun { IfOk result (λ parts. IsBegun parts.durable) }
     ensures roomy { IfOk result (λ parts. AreRoomy parts.durable) }
     ensures epoch { IfOk result (λ parts. IsEpoch limits.now.epochs parts.durable.epoch) }
     ensures stays { Changes (D.tells disk.old) (D.tells disk.new) OpensFiles }
-    ensures any_moment { Within D.moment D.left_since disk.old disk.new (LeavesOpened (D.tells disk.old)) }
+    ensures any_moment { Within D.moment D.left_since disk.old disk.new (LeavesOpened (Unit {0}) (D.tells disk.old)) }
     ensures damaged { IfErr result (IsIllFormed (D.tells disk.old)) }
     ensures spent { IfErr result (IsSpentAt limits.now.epochs (D.tells disk.old)) }
+    ensures next { OnOk result (IsHonest (D.tells disk.old) → HasNoEpoch limits.now.epochs (account (D.tells disk.old)).files → ⊥) }
     ensures cause { CountsFault (D.faults disk.old) (D.faults disk.new) result }
 {
     let (journal, durable) = read_journal(alloc, disk)?;
@@ -64,17 +66,19 @@ fn open_synced<D: Disk>(
 pub fn recover<D: Disk>(alloc: Global, disk: &mut D, limits: &Limits) -> Result<Parts, Fault>
     ensures recovered { IfOk result (λ parts. IsHonest (D.tells disk.old) → (d : _) × FoldsTo (as_read (account (D.tells disk.old)).files) d
         × (parts.durable ≡ raised d) × Owns parts.journal parts.durable (account (D.tells disk.new)).files × AllQuiet (account (D.tells disk.new)).files) }
+    ensures begun { IfOk result (λ parts. IsBegun parts.durable) }
     ensures roomy { IfOk result (λ parts. AreRoomy parts.durable) }
     ensures epoch { IfOk result (λ parts. IsEpoch limits.now.epochs parts.durable.epoch) }
     ensures stays { Changes (D.tells disk.old) (D.tells disk.new) OpensFiles }
-    // A crash at any moment leaves the state from before, or that in the next epoch.
-    ensures any_moment { IsHonest (D.tells disk.old) → AllQuiet (account (D.tells disk.old)).files →
-        Within D.moment D.left_since disk.old disk.new (LeavesOpened (D.tells disk.old)) }
-    // Where something was pending, that is so from some moment on.
-    ensures once_quiet { OnOk result (WithinFrom D.moment D.left_since disk.old disk.new (LeavesOpened (D.tells disk.old))) }
+    // A crash at any moment leaves the state from before, or that in the next epoch, where nothing was pending.
+    ensures any_moment { Within D.moment D.left_since disk.old disk.new (LeavesOpened (BeganQuiet (D.tells disk.old)) (D.tells disk.old)) }
+    // Where something was, that is so from some moment on.
+    ensures once_quiet { OnOk result (WithinFrom D.moment D.left_since disk.old disk.new (LeavesOpened (Unit {0}) (D.tells disk.old))) }
 
     ensures damaged { IfErr result (IsIllFormed (D.tells disk.old)) }
+    // It comes exactly where there is no next epoch, if nothing else comes.
     ensures spent { IfErr result (IsSpentAt limits.now.epochs (D.tells disk.old)) }
+    ensures next { OnOk result (IsHonest (D.tells disk.old) → HasNoEpoch limits.now.epochs (account (D.tells disk.old)).files → ⊥) }
     ensures cause { CountsFault (D.faults disk.old) (D.faults disk.new) result }
 {
     let files = disk.list(alloc)?;

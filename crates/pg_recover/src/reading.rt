@@ -7,7 +7,8 @@ ghost use Rattle.pg_disk.specs.Image.{IsFileThere, Leaves};
 ghost use Rattle.pg_disk.specs.Moments.{Within};
 ghost use Rattle.pg_gate.specs.Spans.{AsRead};
 ghost use Rattle.pg_journal.specs.Looks.{ReadsGenerations};
-ghost use Rattle.pg_recover.specs.Folding.{FoldsFrom, FoldsNowhere, IsDamageOnly, IsFit};
+ghost use Rattle.pg_fold.specs.Sound.{IsSound};
+ghost use Rattle.pg_recover.specs.Folding.{FoldsFrom, FoldsNowhere, IsDamageOnly};
 ghost use Rattle.pg_recover.specs.Places.{AreInside, Covers, IsInside, payloads_at};
 ghost use Rattle.pg_recover.specs.Recovered.{AllQuiet, AreIllFormed};
 ghost use Rattle.pg_recover.specs.Said.{IsReadFrom, LeavesSaid};
@@ -31,10 +32,10 @@ fn read_group<D: Disk>(
 ) -> Result<Durable, Fault>
     requires there { IsHonest (D.tells disk.old) → IsFileThere file (account (D.tells disk.old)).files }
     requires covers { Covers cover spans.now }
-    requires fit { IsFit durable }
+    requires sound { IsSound durable }
     ensures folded { IfOk result (λ after. AsRead file (D.tells disk.old) (λ bytes. IsInside (length bytes) cover →
         FoldsFrom durable (payloads_at bytes spans.now) after)) }
-    ensures fit { IfOk result IsFit }
+    ensures sound { IfOk result IsSound }
     ensures same { (n : ℕ) × Changes (D.tells disk.old) (D.tells disk.new) (Reads n) }
     ensures any_moment { Within D.moment D.left_since disk.old disk.new (Leaves (D.tells disk.old)) }
     ensures damaged { IfErr result (IsDamageOnly (AsRead file (D.tells disk.old) (λ bytes. IsInside (length bytes) cover →
@@ -54,10 +55,10 @@ fn read_payloads<D: Disk>(
     mut durable: Durable,
 ) -> Result<Durable, Fault>
     requires there { IsHonest (D.tells disk.old) → IsFileThere file (account (D.tells disk.old)).files }
-    requires fit { IsFit durable }
+    requires sound { IsSound durable }
     ensures folded { IfOk result (λ after. AsRead file (D.tells disk.old) (λ bytes. AreInside (length bytes) spans.now →
         FoldsFrom durable (payloads_at bytes spans.now) after)) }
-    ensures fit { IfOk result IsFit }
+    ensures sound { IfOk result IsSound }
     ensures same { (n : ℕ) × Changes (D.tells disk.old) (D.tells disk.new) (Reads n) }
     ensures any_moment { Within D.moment D.left_since disk.old disk.new (Leaves (D.tells disk.old)) }
     ensures damaged { IfErr result (IsDamageOnly (AsRead file (D.tells disk.old) (λ bytes. AreInside (length bytes) spans.now →
@@ -82,7 +83,7 @@ pub(crate) fn read_journal<D: Disk>(
     requires { IsHonest (D.tells disk.old) → AllQuiet (account (D.tells disk.old)).files }
     ensures found { IfOk result (λ found. IsHonest (D.tells disk.old) →
         IsReadFrom found.0 found.1 (account (D.tells disk.old)).files (account (D.tells disk.new)).files) }
-    ensures fit { IfOk result (λ found. IsFit found.1) }
+    ensures sound { IfOk result (λ found. IsSound found.1) }
     ensures stays { Changes (D.tells disk.old) (D.tells disk.new) ReadsGenerations }
     ensures any_moment { Within D.moment D.left_since disk.old disk.new (LeavesSaid (D.tells disk.old)) }
     ensures damaged { IfErr result (IsDamageOnly (AreIllFormed (D.tells disk.old))) }

@@ -2,7 +2,7 @@
 ghost use Rattle.std.specs.Prelude.{◌≡◌, ◌≤◌, ◌<◌, ◌+◌, ◌-◌, ◌^◌, ◌==◌, ◌↔◌, ℕ, min, length, slice_index, slice_index_or, All, EachIndex, IsTrue, IfOk, if◌then◌else◌};
 ghost use Rattle.pg_msg.specs.Messages.{HasFields, weight_of};
 ghost use Rattle.pg_recover.specs.Denotation.{weight_at};
-ghost use Rattle.pg_recover.specs.Folding.{IsFit};
+ghost use Rattle.pg_fold.specs.Sound.{IsSound};
 ghost use Rattle.pg_recover.specs.WellFormed.{AreRoomy};
 
 use pg_fold::{AddressRow, Durable, JournaledRow};
@@ -26,8 +26,13 @@ fn add_weight(sums: &mut Vec<u64>, row: &JournaledRow)
     sums[address - 1] = sums[address - 1].saturating_add(weight(&row.message));
 }
 
-// How much the messages of each of so many addresses weigh.
-fn weights(alloc: Global, count: usize, rows: &[JournaledRow]) -> Result<Vec<u64>, AllocError>
+/// How many bytes the messages of each of so many addresses weigh, in the order of the addresses' ids. A sum that would be
+/// greater than its type's end is that. Fails only where there is no memory for them.
+pub fn weights_by_address(
+    alloc: Global,
+    count: usize,
+    rows: &[JournaledRow],
+) -> Result<Vec<u64>, AllocError>
     requires { All (λ row. HasFields row.message) rows.now }
     ensures count { IfOk result (λ sums. length sums.items ≡ count) }
     ensures each { IfOk result (λ sums. EachIndex sums.items (λ k. slice_index sums.items k ≡ min (weight_at (k + 1) rows.now) (2 ^ 64 - 1))) }
@@ -56,10 +61,10 @@ fn are_light(addresses: &[AddressRow], sums: &[u64]) -> bool
 
 // Whether the messages of each address have room in memory.
 pub(crate) fn is_roomy(alloc: Global, durable: &Durable) -> Result<bool, AllocError>
-    requires { IsFit durable.now }
+    requires { IsSound durable.now }
     ensures { IfOk result (λ roomy. IsTrue roomy ↔ AreRoomy durable.now) }
 {
     let addresses = durable.addresses.as_slice();
-    let sums = weights(alloc, addresses.len(), durable.journaled.as_slice())?;
+    let sums = weights_by_address(alloc, addresses.len(), durable.journaled.as_slice())?;
     Ok(are_light(addresses, &sums))
 }
