@@ -1,46 +1,41 @@
 -- What a command does to the broker and to its files, and what a crash within it leaves.
 use Rattle.std.specs.Prelude.{◌≡◌, ◌≢◌, ◌⊎◌, ◌<◌, ◌+◌, ◌^◌, ℕ, List, [], length, Option, Some, None, Result, IfOk}
-use Rattle.std.specs.FinMap.{FinMap, get}
+use Rattle.std.specs.FinMap.{FinMap}
 use Rattle.pg_disk.specs.declared.fault.Fault.{Fault}
-use Rattle.pg_disk.specs.declared.file_id.FileId.{FileId}
+use Rattle.pg_disk.specs.declared.fault.Fault.TheVariants.{Failed, Damaged, Spent, Memory}
 use Rattle.pg_disk.specs.Account.{FileState, Account, account, IsHonest}
 use Rattle.pg_disk.specs.Files.{file_cmp, Files}
 use Rattle.pg_disk.specs.Moments.{Within}
-use Rattle.pg_gate.specs.Gated.{StandsFor, file_of, counted_length}
 use Rattle.pg_msg.specs.declared.command.Command.{Command}
 use Rattle.pg_msg.specs.declared.reply.Reply.{Reply}
-use Rattle.pg_records.specs.declared.entry.Entry.{Entry}
-use Rattle.pg_records.specs.Entries.{batch_bytes, SpellBatches}
+use Rattle.pg_records.specs.Entries.{batch_bytes}
+use Rattle.pg_journal.specs.Generations.{as_left}
+use Rattle.pg_journal.specs.Stands.{counted}
+use Rattle.pg_recover.specs.Broker.{Durable, Broker, refusal_of, Step}
+use Rattle.pg_recover.specs.Denotation.{Denotes}
+use Rattle.pg_recover.specs.Recovered.{Owns as OwnsJournal}
 use Rattle.pg_engine.specs.declared.engine.Engine.{Engine}
-use Rattle.pg_engine.specs.Broker.{Durable, Broker, fresh, refusal_of, Step}
-use Rattle.pg_engine.specs.Denotation.{journal, Denotes}
-use Rattle.pg_engine.specs.Fold.{fold_entries}
+use Rattle.pg_engine.specs.Kept.{broker_of}
 use Rattle.pg_engine.specs.Outcomes.{HasNoNumber, batch_of}
 
 -- the state that the engine stands for
 abbrev pub state_of : Engine → Broker
-state_of engine = engine.state
+state_of engine = broker_of engine.state
 
--- The files are the engine's own: the journal alone is there, its batches give the engine's state, and the next one goes behind them.
-pub record Owns (engine : Engine) (files : FinMap file_cmp FileState) : Type 0 where
-  pub batches : List (List ℕ)
-  pub entries : List Entry
-  pub alone : (file : FileId) → file ≢ journal → get files file ≡ None
-  pub name : file_of engine.journal ≡ journal
-  pub stands : StandsFor engine.journal batches (get files journal)
-  pub spelled : SpellBatches batches entries
-  pub folded : fold_entries fresh entries ≡ Some (state_of engine).durable
+-- The files are the engine's own: its journal is the only generation, the journal's batches give the engine's state, and the next one goes behind them.
+abbrev pub Owns : Engine → FinMap file_cmp FileState → Type 0
+Owns engine files = OwnsJournal engine.journal engine.state.durable files
 
 -- the command isn't refused, and no queue number is left for it, or with its batch the journal would grow past its limit
 pub record MeetsLimit (engine : Engine) (command : Command) : Type 0 where
   pub accepted : refusal_of (state_of engine) command ≡ None
-  pub full : HasNoNumber (state_of engine) command ⊎ ((batch_of (state_of engine) command ≢ []) × (2 ^ 62 < counted_length engine.journal + length (batch_bytes (batch_of (state_of engine) command)) + 9))
+  pub full : HasNoNumber (state_of engine) command ⊎ ((batch_of (state_of engine) command ≢ []) × (2 ^ 62 < counted engine.journal + length (batch_bytes (batch_of (state_of engine) command)) + 9))
 
 -- nothing more is told, and the files denote the one or the other
 pub record LeavesEither (a b : Durable) (entry : Option Account) (image : Files) (told : List ℕ) : Type 0 where
   pub honest : IsHonest entry
   pub nothing : told ≡ (account entry).told
-  pub denoted : Denotes (λ file. get image file) a ⊎ Denotes (λ file. get image file) b
+  pub denoted : Denotes (as_left image) a ⊎ Denotes (as_left image) b
 
 -- the engine stands for the state, and owns the files
 pub record StandsAt (engine : Engine) (state : Broker) (now : Option Account) : Type 0 where
@@ -57,3 +52,9 @@ pub record Executes {D : Type 0} (moment : D → ℕ) (left_since : D → ℕ �
   pub kept : IsHonest (tells new)
   pub told : (account (tells new)).told ≡ (account (tells old)).told
   pub ok : IfOk result (λ done. (done.1 ≡ reply) × StandsAt done.0 next (tells new))
+
+abbrev pub IsDamaged : Fault → Type 0
+IsDamaged Failed = ⊥
+IsDamaged (Damaged damage) = Unit {0}
+IsDamaged Spent = ⊥
+IsDamaged Memory = ⊥

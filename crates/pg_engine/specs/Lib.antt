@@ -1,8 +1,5 @@
-pub mod Broker
-pub mod Denotation
-pub mod Drawn
 pub mod Executed
-pub mod Fold
+pub mod Kept
+pub mod Names
 pub mod Opened
 pub mod Outcomes
-pub mod Rows

@@ -1,53 +1,41 @@
--- What opening does, and what a crash within it leaves.
-use Rattle.std.specs.Prelude.{◌≡◌, ℕ, List, Option, Some, None, Result, IfOk}
-use Rattle.std.specs.FinMap.{FinMap, get}
-use Rattle.pg_disk.specs.declared.fault.Fault.{Fault}
-use Rattle.pg_disk.specs.declared.fault.Fault.TheVariants.{Failed, Damaged, Spent, Memory}
-use Rattle.pg_disk.specs.declared.file_id.FileId.{FileId}
-use Rattle.pg_disk.specs.Account.{FileState, Account, account, IsHonest}
-use Rattle.pg_disk.specs.Files.{file_cmp, Files}
-use Rattle.pg_disk.specs.Moments.{Within}
-use Rattle.pg_gate.specs.declared.log.Rest.{Rest}
+-- The states in which a broker is opened over files.
+use Rattle.std.specs.Prelude.{◌≡◌, ◌⊎◌, ℕ, List, Option}
+use Rattle.pg_disk.specs.Account.{Account, account, IsHonest}
+use Rattle.pg_disk.specs.Files.{Files}
+use Rattle.pg_fold.specs.declared.durable.Durable.{Durable as Folded}
+use Rattle.pg_journal.specs.Generations.{as_read, as_left}
+use Rattle.pg_recover.specs.declared.opening.Parts.{Parts}
+use Rattle.pg_recover.specs.Broker.{Broker, Durable, next_epoch, opened_from}
+use Rattle.pg_recover.specs.Denotation.{Denotes}
+use Rattle.pg_recover.specs.Recovered.{IsBegun}
+use Rattle.pg_recover.specs.WellFormed.{AreRoomy}
 use Rattle.pg_engine.specs.declared.engine.Engine.{Engine}
-use Rattle.pg_engine.specs.Broker.{fresh, next_epoch, opened_from}
-use Rattle.pg_engine.specs.Executed.{LeavesEither, StandsAt}
+use Rattle.pg_engine.specs.Executed.{StandsAt}
+use Rattle.pg_engine.specs.Kept.{Kept}
 
--- no file is there
-abbrev pub HasNoFile : FinMap file_cmp FileState → Type 0
-HasNoFile files = (file : FileId) → get files file ≡ None
+-- the state is the one that is opened from what the files denote
+pub record IsOpened (ids : ℕ) (tells : Option Account) (first : Broker) : Type 0 where
+  pub durable : Durable
+  pub denoted : Denotes (as_read (account tells).files) durable
+  pub opened : first ≡ opened_from ids durable
 
--- where it is told which files there are, there is one
-abbrev pub HasFile : Option Account → Type 0
-HasFile tells = IsHonest tells → HasNoFile (account tells).files → ⊥
+-- the engine stands for that state, and owns the files
+pub record OpensAt (ids : ℕ) (old new : Option Account) (engine : Engine) : Type 0 where
+  pub first : Broker
+  pub opened : IsOpened ids old first
+  pub stands : StandsAt engine first new
 
--- whether there is one, as far as it is told
-abbrev pub IsAFile : Option FileId → Option Account → Type 0
-IsAFile None tells = IsHonest tells → HasNoFile (account tells).files
-IsAFile (Some file) tells = HasFile tells
+-- Nothing was told, and where that is asked, the files denote what they denoted, or that in the next epoch.
+pub record LeavesEpoch (asked : Type 0) (tells : Option Account) (image : Files) (told : List ℕ) : Type 0 where
+  pub honest : IsHonest tells
+  pub nothing : told ≡ (account tells).told
+  pub denoted : asked → (d : Durable) → Denotes (as_read (account tells).files) d → Denotes (as_left image) d ⊎ Denotes (as_left image) (next_epoch d)
 
--- what a listing that isn't answered gives
-abbrev pub IsOfListing : Fault → Type 0
-IsOfListing Failed = Unit {0}
-IsOfListing (Damaged damage) = ⊥
-IsOfListing Spent = ⊥
-IsOfListing Memory = Unit {0}
+-- what an engine is made of: a sound state in a new epoch, whose messages have room
+pub record AreParts (parts : Parts) : Type 0 where
+  pub begun : IsBegun parts.durable
+  pub roomy : AreRoomy parts.durable
 
-abbrev pub IsDamaged : Fault → Type 0
-IsDamaged Failed = ⊥
-IsDamaged (Damaged damage) = Unit {0}
-IsDamaged Spent = ⊥
-IsDamaged Memory = ⊥
-
--- The journal is begun. At each moment the files denote nothing yet, or the state that is opened first.
-pub record Begins {D : Type 0} (moment : D → ℕ) (left_since : D → ℕ → Files → List ℕ → Type 0) (tells : D → Option Account) (old new : D) (result : Result Rest Fault) : Type 0 where
-  pub moments : Within moment left_since old new (LeavesEither fresh (next_epoch fresh) (tells old))
-  pub kept : IsHonest (tells new)
-  pub told : (account (tells new)).told ≡ (account (tells old)).told
-  pub ok : IfOk result (λ journal. (ids : ℕ) → StandsAt (record { journal = journal; state = opened_from ids fresh }) (opened_from ids fresh) (tells new))
-
--- The broker is opened in the fresh state, by the same moments.
-pub record Opens {D : Type 0} (ids : ℕ) (moment : D → ℕ) (left_since : D → ℕ → Files → List ℕ → Type 0) (tells : D → Option Account) (old new : D) (result : Result Engine Fault) : Type 0 where
-  pub moments : Within moment left_since old new (LeavesEither fresh (next_epoch fresh) (tells old))
-  pub kept : IsHonest (tells new)
-  pub told : (account (tells new)).told ≡ (account (tells old)).told
-  pub ok : IfOk result (λ engine. StandsAt engine (opened_from ids fresh) (tells new))
+-- the engine of these parts, which has drawn no id
+abbrev pub engine_of : ℕ → Parts → Engine
+engine_of ids parts = record { journal = parts.journal; state = record { durable = parts.durable; drawn = 0; ids = ids } }

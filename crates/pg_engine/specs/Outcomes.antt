@@ -1,4 +1,4 @@
--- What a command does to the state in memory, and the entry that the journal gets for it.
+-- What a command does to what is kept in memory, and the batch that the journal gets for it.
 use Rattle.std.specs.Prelude.{◌≡◌, ◌≤◌, ◌+◌, ℕ, List, [], ◌∷◌, length, Some, None}
 use Rattle.std.specs.Option.{option_map_or}
 use Rattle.pg_disk.specs.declared.fault.Fault.{Fault}
@@ -8,11 +8,12 @@ use Rattle.pg_msg.specs.declared.command.Command.TheVariants as command
 use Rattle.pg_msg.specs.Replies.{IsBuilt}
 use Rattle.pg_records.specs.declared.entry.Entry.{Entry}
 use Rattle.pg_records.specs.declared.entry.Entry.TheVariants as entry
-use Rattle.pg_records.specs.Entries.{HasFields}
+use Rattle.pg_records.specs.Entries.{HasFields, batch_bytes}
+use Rattle.pg_fold.specs.Fold.{IsApplied}
+use Rattle.pg_recover.specs.Broker.{Broker, place_of, routed, next_id, plain, refusal_of, Step}
 use Rattle.pg_engine.specs.declared.state.Outcome.{Outcome}
 use Rattle.pg_engine.specs.declared.state.Outcome.TheVariants.{Unchanged, Changed}
-use Rattle.pg_engine.specs.Broker.{Broker, place_of, routed, next_id, plain, refusal_of, Step}
-use Rattle.pg_engine.specs.Fold.{effect}
+use Rattle.pg_engine.specs.Kept.{Kept, broker_of}
 
 -- the entry of a message that goes to these queues
 abbrev pub batch_of_message : Broker → ℕ → List ℕ → List ℕ → List Entry
@@ -31,26 +32,28 @@ abbrev pub HasNoNumber : Broker → Command → Type 0
 HasNoNumber s (command.Queue name address None) = 4294967295 ≤ s.durable.next
 HasNoNumber s _ = ⊥
 
--- the command isn't refused, and the entry of its batch gives the state after it
-pub record Records (s : Broker) (command : Command) (entry : Entry) (t : Broker) : Type 0 where
-  pub accepted : refusal_of s command ≡ None
-  pub batch : batch_of s command ≡ entry ∷ []
-  pub gives : effect s.durable entry ≡ Some t.durable
+-- The command isn't refused, its batch has one entry, which gives the state after it, and the bytes spell the batch.
+pub record Records (s : Kept) (command : Command) (batch : List ℕ) (t : Kept) : Type 0 where
+  pub entry : Entry
+  pub accepted : refusal_of (broker_of s) command ≡ None
+  pub batch_is : batch_of (broker_of s) command ≡ entry ∷ []
+  pub applied : IsApplied s.durable entry t.durable
   pub fields : HasFields entry
+  pub bytes : batch ≡ batch_bytes (entry ∷ [])
 
--- one step, which keeps the state or has an entry
-abbrev pub IsOutcome : Broker → Command → Outcome → Type 0
-IsOutcome s command (Unchanged t reply) = (t ≡ s) × Step s (Some command) reply s
-IsOutcome s command (Changed t entry reply) = Step s (Some command) reply t × Records s command entry t
+-- one step, which keeps the state or has a batch
+abbrev pub IsOutcome : Kept → Command → Outcome → Type 0
+IsOutcome s command (Unchanged t reply) = (t ≡ s) × Step (broker_of s) (Some command) reply (broker_of s)
+IsOutcome s command (Changed t batch reply) = Step (broker_of s) (Some command) reply (broker_of t) × Records s command batch t
 
 -- the reply is one that is built
 abbrev pub TellsBuilt : Outcome → Type 0
 TellsBuilt (Unchanged t reply) = IsBuilt reply
-TellsBuilt (Changed t entry reply) = IsBuilt reply
+TellsBuilt (Changed t batch reply) = IsBuilt reply
 
 -- no outcome: for want of memory, or where a command that isn't refused finds no number
-abbrev pub IsNoOutcome : Broker → Command → Fault → Type 0
+abbrev pub IsNoOutcome : Kept → Command → Fault → Type 0
 IsNoOutcome s command Failed = ⊥
 IsNoOutcome s command (Damaged damage) = ⊥
-IsNoOutcome s command Spent = (refusal_of s command ≡ None) × HasNoNumber s command
+IsNoOutcome s command Spent = (refusal_of (broker_of s) command ≡ None) × HasNoNumber (broker_of s) command
 IsNoOutcome s command Memory = Unit {0}

@@ -4,24 +4,34 @@ ghost use Rattle.pg_disk.specs.Account.{account, IsHonest};
 ghost use Rattle.pg_disk.specs.Counts.{CountsFault};
 ghost use Rattle.pg_msg.specs.Commands.{IsInRange};
 ghost use Rattle.pg_msg.specs.Replies.{IsBuilt};
-ghost use Rattle.pg_engine.specs.Executed.{Owns, Executes, MeetsLimit, state_of};
-ghost use Rattle.pg_engine.specs.Opened.{IsDamaged};
+ghost use Rattle.pg_engine.specs.Executed.{Owns, Executes, IsDamaged, MeetsLimit, state_of};
+ghost use Rattle.pg_engine.specs.Opened.{AreParts, engine_of};
 
 use crate::state::{Outcome, State};
 use pg_disk::{Disk, Fault};
-use pg_gate::Rest;
-use pg_msg::{Command, Reply};
-use pg_records::encode_batch;
-use std::alloc::Global;
+use pg_journal::Journal;
+use pg_msg::{Command, Limits, Reply};
+use pg_recover::Parts;
+use std::alloc::{AllocError, Global};
 
 /// A broker over its journal.
 #[derive(Drop)]
 pub struct Engine {
-    pub(crate) journal: Rest,
+    pub(crate) journal: Journal,
     pub(crate) state: State,
 }
 
 impl Engine {
+    /// The broker of the parts that `recover` gives. Fails only for want of memory.
+    pub fn new(alloc: Global, parts: Parts, limits: &Limits) -> Result<Engine, AllocError>
+        requires { AreParts parts }
+        ensures { IfOk result (λ engine. engine ≡ engine_of limits.now.ids parts) }
+    {
+        let Parts { journal, durable } = parts;
+        let state = State::new(alloc, durable, limits.ids)?;
+        Ok(Engine { journal, state })
+    }
+
     /// Executes a command. What it changes is on the disk at Ok. `Spent` comes where no queue number is left, and where the
     /// journal would grow past its limit; `Failed` where the disk failed; `Memory` for want of memory; `Damaged` never.
     /// After an Err there is no engine any more.
@@ -46,11 +56,10 @@ impl Engine {
             Outcome::Unchanged { state, reply } => Ok((Engine { journal, state }, reply)),
             Outcome::Changed {
                 state,
-                entry,
+                batch,
                 reply,
             } => {
-                let batch = encode_batch(alloc, &[entry])?;
-                let journal = journal.append(disk, batch.as_slice())?;
+                let journal = journal.append(disk, &batch)?;
                 Ok((Engine { journal, state }, reply))
             }
         }

@@ -1,18 +1,24 @@
 // The state of the broker in memory, and what each command does to it.
-ghost use Rattle.std.specs.Prelude.{◌≡◌, ◌≤◌, ◌<◌, ◌+◌, Some, None, IfOk, IfErr, OnOk, slice_get, length};
-ghost use Rattle.pg_msg.specs.Names.{IsName};
-ghost use Rattle.pg_msg.specs.Commands.{IsInRange, AreSettings, longest_body};
-ghost use Rattle.pg_msg.specs.Messages.{HasFields, weight_of};
-ghost use Rattle.pg_engine.specs.Broker.{Address, given, holding, plain, queueing, sending, place_of, routed, resident, opened_from, fresh};
-ghost use Rattle.pg_engine.specs.Drawn.{broker_of, IsFit};
+ghost use Rattle.std.specs.Prelude.{◌≡◌, ◌≢◌, ◌≤◌, ◌<◌, ◌+◌, ◌++◌, ◌∷◌, ◌↔◌, [], List, ℕ, map, All, AllPairs, IsTrue, Some, None, IfOk, IfErr, OnOk, length};
+ghost use Rattle.pg_msg.specs.Commands.{IsInRange, longest_body};
+ghost use Rattle.pg_records.specs.Entries.{HasFields, batch_bytes};
+ghost use Rattle.pg_fold.specs.Fold.{rule_of, changed};
+ghost use Rattle.pg_fold.specs.Sound.{AreAddresses};
+ghost use Rattle.pg_recover.specs.Broker.{plain, queueing, sending};
+ghost use Rattle.pg_recover.specs.Denotation.{held_by};
+ghost use Rattle.pg_recover.specs.Recovered.{IsBegun};
+ghost use Rattle.pg_recover.specs.WellFormed.{AreRoomy};
+ghost use Rattle.pg_engine.specs.Kept.{HasRoom, name_of_row, names_in, names_of_rows};
+ghost use Rattle.pg_engine.specs.Names.{IsId, address_named, numbers_at};
 ghost use Rattle.pg_engine.specs.Outcomes.{IsOutcome, IsNoOutcome, TellsBuilt};
-ghost use Rattle.pg_engine.specs.Rows.{IsSound, addresses_of, queues_of};
 
-use crate::routes::{Routes, Settings};
+use crate::routes::Routes;
 use pg_bytes::{Octets, Text};
 use pg_disk::Fault;
-use pg_msg::{Body, Command, Message, MessageId, Properties, QueueIds, Refusal, Reply};
-use pg_records::Entry;
+use pg_fold::{AddressRow, Durable, FoldError, JournaledRow, QueueRow};
+use pg_msg::{Body, Command, Message, MessageId, Properties, QueueIds, Refusal, Reply, weight};
+use pg_records::{Entry, encode_batch};
+use pg_recover::weights_by_address;
 use std::alloc::{AllocError, Global};
 use std::marker::Model;
 
@@ -25,24 +31,35 @@ const MOST_QUEUES: usize = 1000;
 /// No queue has this number or a greater one.
 const QUEUE_NUMBERS: u32 = 4_294_967_295;
 
-/// The state of the broker in memory, which contracts see as the broker that it stands for.
+/// The settings of an address: `max` and `ahead` in bytes of messages, `page` in bytes of a page file, `dup` as a count of
+/// duplicate ids.
+#[derive(Clone, Copy, Debug, PartialEq, Eq)]
+pub struct Settings {
+    pub max: u64,
+    pub page: u64,
+    pub ahead: u64,
+    pub dup: u32,
+}
+
+/// The state of the broker in memory: the folded state, the names in it by hash, the bytes of the messages of each address,
+/// and the ids that were drawn.
 #[derive(Drop)]
 pub struct State {
-    epoch: u32,
+    durable: Durable,
+    routes: Routes,
+    weights: Vec<u64>,
     drawn: u32,
     ids: u32,
-    routes: Routes,
 }
 
 impl Model for State {
-    ghost use Rattle.pg_engine.specs.Broker.{Broker};
-    ghost use Rattle.pg_engine.specs.Drawn.{broker_of, IsFit};
+    ghost use Rattle.pg_engine.specs.Kept.{Kept, IsFit};
 
-    ghost Value = { Broker };
+    ghost Value = { Kept };
 
-    ghost view = { λ i. broker_of i.epoch i.drawn i.ids i.routes };
+    ghost view = { λ i. record { durable = i.durable; drawn = i.drawn; ids = i.ids } };
 
-    ghost invariant = { λ i. IsFit i.epoch i.drawn i.routes };
+    ghost invariant = { λ i. IsFit i.durable i.routes i.weights.items i.drawn };
 }
 
 /// What a command does.
@@ -53,25 +70,31 @@ pub enum Outcome {
         state: State,
         reply: Reply,
     },
-    /// The state after the command, and the entry that the journal gets for it.
+    /// The state after the command, and the batch that the journal gets for it.
     Changed {
         state: State,
-        entry: Entry,
+        batch: Octets,
         reply: Reply,
     },
 }
 
 impl State {
-    /// The state of a broker that is opened for the first time.
-    pub fn opened(alloc: Global, ids: u32) -> State
-        ensures { result ≡ opened_from ids fresh }
+    /// The state of a broker that was opened: the epoch was begun, and no id is drawn.
+    pub fn new(alloc: Global, durable: Durable, ids: u32) -> Result<State, AllocError>
+        requires begun { IsBegun durable }
+        requires roomy { AreRoomy durable }
+        ensures { IfOk result (λ state. state ≡ record { durable = durable; drawn = 0; ids = ids }) }
     {
-        State {
-            epoch: 1,
+        let addresses = durable.addresses.as_slice();
+        let routes = named_routes(alloc, addresses, durable.queues.as_slice())?;
+        let weights = weights_by_address(alloc, addresses.len(), durable.journaled.as_slice())?;
+        Ok(State {
+            durable,
+            routes,
+            weights,
             drawn: 0,
             ids,
-            routes: Routes::new(alloc),
-        }
+        })
     }
 
     /// Executes a command. `Memory` comes for want of memory, `Spent` where no number is left for a queue; of the other
@@ -115,36 +138,34 @@ impl State {
         ensures built { IfOk result TellsBuilt }
         ensures none { IfErr result (λ fault. fault ≡ Fault.Memory) }
     {
-        if self.routes.place(&name).is_some() {
+        if self.routes.address_id(&name).is_some() {
             return Ok(self.unchanged(Reply::No(Refusal::Name)));
         }
-        let count = self.routes.address_count();
+        let count = self.durable.addresses.as_slice().len();
         if count >= MOST_ADDRESSES {
             return Ok(self.unchanged(Reply::No(Refusal::Line)));
         }
-        let entry = Entry::Address {
-            address: count as u32 + 1,
-            name: name.copy()?,
-            max: settings.max,
-            page: settings.page,
-            ahead: settings.ahead,
-            dup: settings.dup,
-        };
+        let id = count as u32 + 1;
         let State {
-            epoch,
+            durable,
+            routes,
+            mut weights,
             drawn,
             ids,
-            mut routes,
         } = self;
-        routes.add_address(alloc, name, settings)?;
+        let (durable, batch) = record_entry(alloc, durable, address_entry(id, name.copy()?, settings))?;
+        let routes = routes.add_address(alloc, id, name)?;
+        add_weight(&mut weights)?;
+        let state = State {
+            durable,
+            routes,
+            weights,
+            drawn,
+            ids,
+        };
         Ok(Outcome::Changed {
-            state: State {
-                epoch,
-                drawn,
-                ids,
-                routes,
-            },
-            entry,
+            state,
+            batch,
             reply: Reply::Done,
         })
     }
@@ -156,41 +177,39 @@ impl State {
         ensures built { IfOk result TellsBuilt }
         ensures none { IfErr result (λ fault. IsNoOutcome self (queueing name address) fault) }
     {
-        if self.routes.has_queue(&name) {
+        if self.routes.queue_id(&name).is_some() {
             return Ok(self.unchanged(Reply::No(Refusal::Name)));
         }
-        let place = match self.routes.place(&address) {
-            Some(place) => place,
-            None => return Ok(self.unchanged(Reply::No(Refusal::Address))),
+        let Some(address) = self.routes.address_id(&address) else {
+            return Ok(self.unchanged(Reply::No(Refusal::Address)));
         };
-        if self.routes.numbers(place).len() >= MOST_QUEUES {
+        if self.routes.numbers(address).len() >= MOST_QUEUES {
             return Ok(self.unchanged(Reply::No(Refusal::Line)));
         }
-        let number = self.routes.next();
-        if number >= QUEUE_NUMBERS {
+        let queue = self.durable.next;
+        if queue >= QUEUE_NUMBERS {
             return Err(Fault::Spent);
         }
-        let entry = Entry::Queue {
-            queue: number,
-            address: place as u32 + 1,
-            name: name.copy()?,
-            filter: Text::from_str(alloc, "")?,
-        };
         let State {
-            epoch,
+            durable,
+            routes,
+            weights,
             drawn,
             ids,
-            mut routes,
         } = self;
-        routes.add_queue(name, place)?;
+        let entry = queue_entry(alloc, queue, address, name.copy()?)?;
+        let (durable, batch) = record_entry(alloc, durable, entry)?;
+        let routes = routes.add_queue(queue, address, name)?;
+        let state = State {
+            durable,
+            routes,
+            weights,
+            drawn,
+            ids,
+        };
         Ok(Outcome::Changed {
-            state: State {
-                epoch,
-                drawn,
-                ids,
-                routes,
-            },
-            entry,
+            state,
+            batch,
             reply: Reply::Done,
         })
     }
@@ -202,44 +221,79 @@ impl State {
         ensures built { IfOk result TellsBuilt }
         ensures none { IfErr result (λ fault. fault ≡ Fault.Memory) }
     {
-        let place = match self.routes.place(&address) {
-            Some(place) => place,
-            None => return Ok(self.unchanged(Reply::No(Refusal::Address))),
+        let Some(address) = self.routes.address_id(&address) else {
+            return Ok(self.unchanged(Reply::No(Refusal::Address)));
         };
-        let numbers = self.routes.numbers(place);
+        let numbers = self.routes.numbers(address);
         if numbers.is_empty() {
             return Ok(self.unchanged(Reply::Unrouted));
         }
         let queues = QueueIds::from_vec(Vec::from_slice(alloc, numbers)?);
-        if self.drawn >= self.ids {
+        if self.drawn >= self.ids || !self.has_room(address) {
             return Ok(self.unchanged(Reply::No(Refusal::Line)));
         }
-        if !self.routes.has_room(place) {
-            return Ok(self.unchanged(Reply::No(Refusal::Line)));
-        }
-        let number = self.drawn + 1;
-        let id = MessageId {
-            epoch: self.epoch,
-            number,
-        };
-        let entry = add_entry(alloc, place as u32 + 1, queues, id, &body)?;
+        self.hold(alloc, address, queues, body)
+    }
+
+    // Holds a message with this body for the address with that id, and gives it to its queues.
+    fn hold(
+        self,
+        alloc: Global,
+        address: u32,
+        queues: QueueIds,
+        body: Octets,
+    ) -> Result<Outcome, Fault>
+        requires known { IsId (length self.durable.addresses) address }
+        requires routed { queues ≡ numbers_at address (names_in self.durable).queues }
+        requires some { queues ≢ [] }
+        requires short { length body ≤ longest_body }
+        requires left { self.drawn < self.ids }
+        requires room { HasRoom self.durable address }
+        ensures outcome { IfOk result (λ outcome. (name : List ℕ) → address_named (names_in self.durable) name ≡ Some address → IsOutcome self (sending name body) outcome) }
+        ensures built { IfOk result TellsBuilt }
+        ensures none { IfErr result (λ fault. fault ≡ Fault.Memory) }
+    {
         let State {
-            epoch,
-            drawn: _,
+            durable,
+            routes,
+            mut weights,
+            drawn,
             ids,
-            mut routes,
         } = self;
-        hold_plain(alloc, &mut routes, place, id, body)?;
+        let id = MessageId {
+            epoch: durable.epoch,
+            number: drawn + 1,
+        };
+        let message = plain_message(alloc, id, body);
+        let place = address as usize - 1;
+        weights[place] = weights[place].saturating_add(weight(&message));
+        let entry = Entry::Add {
+            address,
+            queues,
+            message,
+        };
+        let (durable, batch) = record_entry(alloc, durable, entry)?;
+        let state = State {
+            durable,
+            routes,
+            weights,
+            drawn: drawn + 1,
+            ids,
+        };
         Ok(Outcome::Changed {
-            state: State {
-                epoch,
-                drawn: number,
-                ids,
-                routes,
-            },
-            entry,
+            state,
+            batch,
             reply: Reply::Sent(id),
         })
+    }
+
+    // Whether the address with that id has room in memory for a further message: its messages have fewer bytes than its `max`.
+    fn has_room(&self, address: u32) -> bool
+        requires { IsId (length self.now.durable.addresses) address }
+        ensures { IsTrue result ↔ HasRoom self.now.durable address }
+    {
+        let place = address as usize - 1;
+        self.weights[place] < self.durable.addresses.as_slice()[place].max
     }
 
     // The command `count`.
@@ -247,8 +301,11 @@ impl State {
         ensures outcome { IsOutcome self (Command.Count queue) result }
         ensures built { TellsBuilt result }
     {
-        match self.routes.message_count(&queue) {
-            Some(count) => self.unchanged(Reply::Count(count)),
+        match self.routes.queue_id(&queue) {
+            Some(queue) => {
+                let count = count_held(self.durable.journaled.as_slice(), queue);
+                self.unchanged(Reply::Count(count))
+            }
             None => self.unchanged(Reply::No(Refusal::Queue)),
         }
     }
@@ -258,6 +315,76 @@ impl State {
         ensures { result ≡ Outcome.Unchanged self reply }
     {
         Outcome::Unchanged { state: self, reply }
+    }
+}
+
+// How many of the messages the queue holds.
+fn count_held(rows: &[JournaledRow], queue: u32) -> u64
+    ensures { result ≡ length (held_by queue rows.now) }
+{
+    rows.iter()
+        .filter(|row| row.holders.as_slice().contains(&queue))
+        .count() as u64
+}
+
+// Adds the weight of an address without messages.
+fn add_weight(weights: &mut Vec<u64>) -> Result<(), AllocError>
+    ensures { OnOk result (weights.new.items ≡ weights.old.items ++ 0 ∷ []) }
+{
+    weights.push(0)?;
+    Ok(())
+}
+
+// The names of the addresses and of the queues.
+fn named_routes(
+    alloc: Global,
+    addresses: &[AddressRow],
+    queues: &[QueueRow],
+) -> Result<Routes, AllocError>
+    requires addresses { AreAddresses addresses.now }
+    requires names { AllPairs (λ row other. row.name ≢ other.name) queues.now }
+    requires placed { All (λ row. IsId (length addresses.now) row.address) queues.now }
+    ensures { IfOk result (λ routes. routes ≡ names_of_rows addresses.now queues.now) }
+{
+    let mut routes = Routes::new(alloc);
+    for row in addresses {
+        routes = routes.add_address(alloc, row.id, row.name.copy()?)?;
+    }
+    name_queues(routes, queues)
+}
+
+// Adds the names of the queues.
+fn name_queues(mut routes: Routes, queues: &[QueueRow]) -> Result<Routes, AllocError>
+    requires none { routes.queues ≡ [] }
+    requires names { AllPairs (λ row other. row.name ≢ other.name) queues.now }
+    requires placed { All (λ row. IsId (length routes.addresses) row.address) queues.now }
+    ensures addresses { IfOk result (λ named. named.addresses ≡ routes.addresses) }
+    ensures queues { IfOk result (λ named. named.queues ≡ map name_of_row queues.now) }
+{
+    for row in queues {
+        routes = routes.add_queue(row.id, row.address, row.name.copy()?)?;
+    }
+    Ok(routes)
+}
+
+// The batch of the entry, and the state behind it. Its condition holds.
+fn record_entry(
+    alloc: Global,
+    durable: Durable,
+    entry: Entry,
+) -> Result<(Durable, Octets), Fault>
+    requires condition { rule_of durable entry ≡ None }
+    requires fields { HasFields entry }
+    ensures changed { IfOk result (λ recorded. recorded.0 ≡ changed durable entry) }
+    ensures batch { IfOk result (λ recorded. recorded.1 ≡ batch_bytes (entry ∷ [])) }
+    ensures none { IfErr result (λ fault. fault ≡ Fault.Memory) }
+{
+    let batch = encode_batch(alloc, std::slice::from_ref(&entry))?;
+    match durable.apply(alloc, entry) {
+        Ok(durable) => Ok((durable, batch)),
+        Err(FoldError::Memory) => Err(Fault::Memory),
+        // Its condition holds.
+        Err(FoldError::Broken(_)) => unreachable!(),
     }
 }
 
@@ -273,36 +400,33 @@ fn plain_message(alloc: Global, id: MessageId, body: Octets) -> Message
     }
 }
 
-// Holds a message with a body alone.
-fn hold_plain(
-    alloc: Global,
-    routes: &mut Routes,
-    place: usize,
-    id: MessageId,
-    body: Octets,
-) -> Result<(), AllocError>
-    requires { HasFields (plain id body) }
-    ensures addresses { OnOk result (addresses_of routes.new ≡ holding place (plain id body) (addresses_of routes.old)) }
-    ensures queues { OnOk result (IsSound routes.old → queues_of routes.new ≡ given place (plain id body) (queues_of routes.old)) }
-    ensures next { OnOk result (routes.new.next ≡ routes.old.next) }
-    ensures sound { OnOk result (IsSound routes.old → (a : Address) → slice_get (addresses_of routes.old) place ≡ Some a → resident a < a.max → weight_of (plain id body) ≤ 102399 → IsSound routes.new) }
+// The entry of an address.
+fn address_entry(address: u32, name: Text, settings: Settings) -> Entry
+    ensures { result ≡ Entry.Address address name settings.max settings.page settings.ahead settings.dup }
 {
-    routes.hold(place, plain_message(alloc, id, body))
+    Entry::Address {
+        address,
+        name,
+        max: settings.max,
+        page: settings.page,
+        ahead: settings.ahead,
+        dup: settings.dup,
+    }
 }
 
-// The entry of a message that goes to these queues.
-fn add_entry(
+// The entry of a queue without a filter.
+fn queue_entry(
     alloc: Global,
+    queue: u32,
     address: u32,
-    queues: QueueIds,
-    id: MessageId,
-    body: &Octets,
+    name: Text,
 ) -> Result<Entry, AllocError>
-    ensures { IfOk result (λ entry. entry ≡ Entry.Add address queues (plain id body.now)) }
+    ensures { IfOk result (λ entry. entry ≡ Entry.Queue queue address name []) }
 {
-    Ok(Entry::Add {
+    Ok(Entry::Queue {
+        queue,
         address,
-        queues,
-        message: plain_message(alloc, id, body.copy()?),
+        name,
+        filter: Text::from_str(alloc, "")?,
     })
 }

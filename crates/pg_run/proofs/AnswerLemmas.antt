@@ -16,9 +16,10 @@ use Rattle.pg_msg.specs.declared.command.Command.{Command}
 use Rattle.pg_msg.specs.declared.reply.Reply.{Reply}
 use Rattle.pg_text.specs.Spelling.{ReadsAs}
 use Rattle.pg_text.specs.Replies.{reply_line, reply_bytes}
+use Rattle.pg_journal.specs.Generations.{as_left}
 use Rattle.pg_engine.specs.declared.engine.Engine.{Engine}
-use Rattle.pg_engine.specs.Broker.{Broker, Step, last_state}
-use Rattle.pg_engine.specs.Denotation.{Denotes}
+use Rattle.pg_recover.specs.Broker.{Broker, Step, last_state}
+use Rattle.pg_recover.specs.Denotation.{Denotes}
 use Rattle.pg_engine.specs.Executed.{state_of, Owns, LeavesEither, StandsAt, Executes}
 use Rattle.pg_engine.proofs.Executing.{owned_denote}
 use Rattle.pg_run.specs.Answered.{Answers}
@@ -67,7 +68,7 @@ module _ (first : Broker) (item : Option Command) (reply : Reply) (next : Broker
     | inr after ↦ between 1 (inr refl) (omega arith) after
   ]
     where
-      between : (k : ℕ) → (k ≡ 0) ⊎ (k ≡ 0 + 1) → k ≤ 1 → Denotes (λ file. get image file) (last_state first (take k (next ∷ []))).durable → LeavesBetween first (reply ∷ []) (next ∷ []) entry image told
+      between : (k : ℕ) → (k ≡ 0) ⊎ (k ≡ 0 + 1) → k ≤ 1 → Denotes (as_left image) (last_state first (take k (next ∷ []))).durable → LeavesBetween first (reply ∷ []) (next ∷ []) entry image told
       between k close within denoted = record {
         honest = left.honest;
         between = record { n = 0; k = k; close = close; within = within; more = []; bytes = left.nothing ∙ sym (append-nil (account entry).told); tells = none_told reply; denoted = denoted };
@@ -88,7 +89,7 @@ module _ (first : Broker) (item : Option Command) (reply : Reply) (next : Broker
           more = take left.count (reply_line reply);
           bytes = left.told ∙ ap (λ (bytes : List ℕ). bytes ++ take left.count (reply_line reply)) same;
           tells = part.told;
-          denoted = subst (λ (s : Broker). Denotes (λ file. get image file) s.durable) stands.stands (owned_denote engine (account mid).files image stands.owns left.image);
+          denoted = subst (λ (s : Broker). Denotes (as_left image) s.durable) stands.stands (owned_denote engine (account mid).files image stands.owns left.image);
         };
       }
 
@@ -118,7 +119,7 @@ module _ {D : Type 0} (moment : D → ℕ) (left_since : D → ℕ → Files →
             more = [];
             bytes = now.told ∙ sym (append-nil (account (tells old)).told);
             tells = nothing_told;
-            denoted = subst (λ (s : Broker). Denotes (λ file. get c file) s.durable) stands (owned_denote engine (account (tells old)).files c owns now.image);
+            denoted = subst (λ (s : Broker). Denotes (as_left c) s.durable) stands (owned_denote engine (account (tells old)).files c owns now.image);
           };
         });
     kept = honest;

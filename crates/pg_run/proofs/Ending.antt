@@ -22,7 +22,7 @@ use Rattle.pg_lines.proofs.LineLemmas.{TakesFrom-then}
 use Rattle.pg_text.specs.Spelling.{ReadsAs}
 use Rattle.pg_text.proofs.ReadingLemmas.{kept_reads}
 use Rattle.pg_engine.specs.declared.engine.Engine.{Engine}
-use Rattle.pg_engine.specs.Broker.{Broker}
+use Rattle.pg_recover.specs.Broker.{Broker}
 use Rattle.pg_engine.specs.Executed.{state_of, Owns, StandsAt, MeetsLimit}
 use Rattle.pg_run.specs.declared.run.Stop.{Stop}
 use Rattle.pg_run.specs.declared.run.Stop.TheVariants.{Site, Source}

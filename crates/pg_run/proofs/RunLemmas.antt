@@ -9,8 +9,9 @@ use Rattle.pg_msg.specs.declared.command.Command.{Command}
 use Rattle.pg_msg.specs.declared.reply.Reply.{Reply}
 use Rattle.pg_text.specs.Spelling.{ReadAs}
 use Rattle.pg_text.specs.Replies.{reply_text, reply_line, reply_bytes, BeginsNext}
-use Rattle.pg_engine.specs.Broker.{Broker, Run, last_state}
-use Rattle.pg_engine.specs.Denotation.{Denotes}
+use Rattle.pg_journal.specs.Generations.{as_left}
+use Rattle.pg_recover.specs.Broker.{Broker, Run, last_state}
+use Rattle.pg_recover.specs.Denotation.{Denotes}
 use Rattle.pg_run.specs.Served.{Tells, LeavesBetween}
 
 pub pushed_some : (xs : List ℕ) (x : ℕ) → xs ++ (x ∷ []) ≢ []
@@ -99,7 +100,7 @@ between_more first replies more states more_states entry image told left = let b
     more = b.more;
     bytes = b.bytes;
     tells = tells_more replies more b.n b.more b.tells;
-    denoted = subst (λ (ss : List Broker). Denotes (λ file. get image file) (last_state first ss).durable) (sym (take-append-le b.k states more_states b.within)) b.denoted;
+    denoted = subst (λ (ss : List Broker). Denotes (as_left image) (last_state first ss).durable) (sym (take-append-le b.k states more_states b.within)) b.denoted;
   };
 }
 
@@ -116,7 +117,7 @@ between_then first replies more states more_states entry mid image told honest s
     more = reply_bytes replies ++ b.more;
     bytes = b.bytes ∙ (ap (λ (bytes : List ℕ). bytes ++ b.more) so_far ∙ append_assoc (account entry).told (reply_bytes replies) b.more);
     tells = tells_then replies more b.n b.more b.tells;
-    denoted = subst (λ (ss : List Broker). Denotes (λ file. get image file) (last_state first ss).durable) (sym (take-append-add states more_states b.k))
-        (subst (λ (s : Broker). Denotes (λ file. get image file) s.durable) (sym (last_state-append first states (take b.k more_states))) b.denoted);
+    denoted = subst (λ (ss : List Broker). Denotes (as_left image) (last_state first ss).durable) (sym (take-append-add states more_states b.k))
+        (subst (λ (s : Broker). Denotes (as_left image) s.durable) (sym (last_state-append first states (take b.k more_states))) b.denoted);
   };
 }

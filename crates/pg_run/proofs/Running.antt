@@ -11,9 +11,10 @@ use Rattle.pg_msg.specs.declared.reply.Reply.{Reply}
 use Rattle.pg_lines.specs.Lines.{longest_line}
 use Rattle.pg_text.specs.Replies.{reply_bytes, BeginsNext}
 use Rattle.pg_text.proofs.ReadingLemmas.{read_more, kept_one}
+use Rattle.pg_journal.specs.Generations.{as_left}
 use Rattle.pg_engine.specs.declared.engine.Engine.{Engine}
-use Rattle.pg_engine.specs.Broker.{Broker, Run, last_state}
-use Rattle.pg_engine.specs.Denotation.{Denotes}
+use Rattle.pg_recover.specs.Broker.{Broker, Run, last_state}
+use Rattle.pg_recover.specs.Denotation.{Denotes}
 use Rattle.pg_engine.specs.Executed.{state_of, StandsAt}
 use Rattle.pg_engine.proofs.Executing.{owned_denote}
 use Rattle.pg_run.specs.Served.{LeavesBetween, Serves, ServesAll}
@@ -41,7 +42,7 @@ module _ {D : Type 0} (moment : D → ℕ) (left_since : D → ℕ → Files →
             more = [];
             bytes = now.told ∙ sym (append-nil (account (tells old)).told);
             tells = tells_all [];
-            denoted = subst (λ (s : Broker). Denotes (λ file. get c file) s.durable) stands.stands (owned_denote engine (account (tells old)).files c stands.owns now.image);
+            denoted = subst (λ (s : Broker). Denotes (as_left c) s.durable) stands.stands (owned_denote engine (account (tells old)).files c stands.owns now.image);
           };
         });
     told = sym (append-nil (account (tells old)).told);
@@ -80,8 +81,8 @@ module _ {D : Type 0} (moment : D → ℕ) (left_since : D → ℕ → Files →
   reply_count lines new engine s = sym (run_lengths first s.items s.replies s.states s.run).1 ∙ s.all
 
   -- whatever a crash leaves after it denotes the last state
-  pub rests : (lines : List (List ℕ)) (new : D) (engine : Engine) (s : ServesAll moment left_since tells first lines old new engine) (image : Files) → IsImage (account (tells new)).files image → Denotes (λ file. get image file) (last_state first s.states).durable
-  rests lines new engine s image is = subst (λ (b : Broker). Denotes (λ file. get image file) b.durable) s.stands.stands (owned_denote engine (account (tells new)).files image s.stands.owns is)
+  pub rests : (lines : List (List ℕ)) (new : D) (engine : Engine) (s : ServesAll moment left_since tells first lines old new engine) (image : Files) → IsImage (account (tells new)).files image → Denotes (as_left image) (last_state first s.states).durable
+  rests lines new engine s image is = subst (λ (b : Broker). Denotes (as_left image) b.durable) s.stands.stands (owned_denote engine (account (tells new)).files image s.stands.owns is)
 
   -- more lines behind those that were served
   module _ (lines : List (List ℕ)) (mid : D) (engine : Engine) (honest : IsHonest (tells old)) (s : ServesAll moment left_since tells first lines old mid engine) where

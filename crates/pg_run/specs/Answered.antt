@@ -5,8 +5,8 @@ use Rattle.pg_disk.specs.declared.fault.SiteFault.TheVariants.{Disk, Sink}
 use Rattle.pg_disk.specs.Account.{Account}
 use Rattle.pg_disk.specs.Files.{Files}
 use Rattle.pg_engine.specs.declared.engine.Engine.{Engine}
-use Rattle.pg_engine.specs.Broker.{Broker}
-use Rattle.pg_engine.specs.Opened.{IsDamaged}
+use Rattle.pg_recover.specs.Broker.{Broker}
+use Rattle.pg_engine.specs.Executed.{IsDamaged}
 use Rattle.pg_run.specs.Served.{LeavesBetween, Serves, ServesAll}
 
 -- a reply is told in part only where the output failed

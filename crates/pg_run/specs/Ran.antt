@@ -8,6 +8,7 @@ use Rattle.pg_disk.specs.Account.{Account, account, IsHonest}
 use Rattle.pg_disk.specs.Counts.{FaultCounts, SiteFaultCountsAs, Rose, DiskFailed, OutputFailed}
 use Rattle.pg_disk.specs.Files.{Files}
 use Rattle.pg_disk.specs.Image.{IsImage}
+use Rattle.pg_disk.specs.Moments.{WithinFrom}
 use Rattle.pg_disk.specs.Reads.{reads, TakesFrom}
 use Rattle.pg_msg.specs.declared.command.Command.{Command}
 use Rattle.pg_msg.specs.declared.reply.Reply.{Reply}
@@ -16,14 +17,16 @@ use Rattle.pg_lines.specs.Lines.{IsCut, lines_of}
 use Rattle.pg_lines.specs.Reading.{IsAtEnd, ReadErrorCounts}
 use Rattle.pg_text.specs.Spelling.{ReadsAs, ReadAs}
 use Rattle.pg_text.specs.Replies.{reply_bytes}
+use Rattle.pg_journal.specs.Generations.{as_left, as_read}
 use Rattle.pg_engine.specs.declared.engine.Engine.{Engine}
-use Rattle.pg_engine.specs.Broker.{Broker, Run, last_state}
-use Rattle.pg_engine.specs.Denotation.{Denotes}
+use Rattle.pg_recover.specs.Broker.{Broker, Durable, Run, last_state, opened_from}
+use Rattle.pg_recover.specs.Denotation.{Denotes}
+use Rattle.pg_recover.specs.Recovered.{BeganQuiet}
 use Rattle.pg_engine.specs.Executed.{StandsAt, MeetsLimit}
-use Rattle.pg_engine.specs.Opened.{IsDamaged}
+use Rattle.pg_engine.specs.Executed.{IsDamaged}
 use Rattle.pg_run.specs.declared.run.Stop.{Stop}
 use Rattle.pg_run.specs.declared.run.Stop.TheVariants.{Site, Source}
-use Rattle.pg_run.specs.Served.{Serves}
+use Rattle.pg_run.specs.Served.{AnyTime, LeavesRun, Serves}
 
 -- the statuses of a run
 abbrev pub status_of_fault : Fault → ℕ
@@ -73,7 +76,7 @@ pub record Replies {D : Type 0} (leaving : Broker → List Reply → List Broker
   pub all : IsInputServed status → (length serves.items ≡ length lines) × (serves.n ≡ length lines)
   pub to_end : status ≡ 0 → lines ≡ lines_of whole behind
   pub to_place : (status ≡ 5) ⊎ (status ≡ 7) → lines ≡ whole
-  pub at_rest : IsInputServed status → (image : Files) → IsImage (account (tells new)).files image → Denotes (λ file. get image file) (last_state first serves.states).durable
+  pub at_rest : IsInputServed status → (image : Files) → IsImage (account (tells new)).files image → Denotes (as_left image) (last_state first serves.states).durable
   pub full : status ≡ 8 → unopened ⊎ ((line : List ℕ) × (others : List (List ℕ)) × (drop serves.n lines ≡ line ∷ others) × IsFull tells (last_state first serves.states) line new)
 
 -- What was read up to the limit is cut into lines, and these are served in order, on what is asked of the site.
@@ -84,6 +87,25 @@ pub record Ran {D : Type 0} (leaving : Broker → List Reply → List Broker →
   pub input : ReadsInput limit rest_old rest_new read status
   pub cut : IsCut (take limit read) whole behind
   pub replies : asks → Replies leaving unopened moment left_since tells first whole behind rest_old rest_new old new status
+
+-- it is none of these
+abbrev pub IsAnyBut : List ℕ → ℕ → Type 0
+IsAnyBut [] status = Unit {0}
+IsAnyBut (other ∷ others) status = (status ≢ other) × IsAnyBut others status
+
+-- The same of a run that begins with opening, from what the files denote. A crash is spoken of where nothing was pending at the beginning, and where
+-- something was from some moment on, if the opening came to its end.
+pub record RanOpened {D : Type 0} (unopened : Type 0) (moment : D → ℕ) (left_since : D → ℕ → Files → List ℕ → Type 0) (tells : D → Option Account) (ids limit : ℕ) (rest_old rest_new : Option (List ℕ)) (old new : D) (status : ℕ) : Type 0 where
+  pub read : List ℕ
+  pub whole : List (List ℕ)
+  pub behind : List ℕ
+  pub input : ReadsInput limit rest_old rest_new read status
+  pub cut : IsCut (take limit read) whole behind
+  pub replies : (durable : Durable) → IsHonest (tells old) → Denotes (as_read (account (tells old)).files) durable
+      → Replies (LeavesRun BeganQuiet durable) unopened moment left_since tells (opened_from ids durable) whole behind rest_old rest_new old new status
+  pub late : (durable : Durable) (honest : IsHonest (tells old)) (denoted : Denotes (as_read (account (tells old)).files) durable) → IsAnyBut (2 ∷ 3 ∷ 6 ∷ 8 ∷ []) status
+      → let serves = (replies durable honest denoted).serves in
+      WithinFrom moment left_since old new (LeavesRun AnyTime durable (opened_from ids durable) serves.replies serves.states (tells old))
 
 -- the counts of faults stand, but for that of the device that failed
 abbrev pub StopCounts : Stop → FaultCounts → FaultCounts → ℕ → ℕ → Type 0
@@ -129,12 +151,13 @@ pub record ServesInput (first : Broker) (input : List ℕ) (old new : Account) :
   pub all : length items ≡ length (lines_of whole behind)
   pub run : Run first items replies states
   pub told : new.told ≡ old.told ++ reply_bytes replies
-  pub denoted : Denotes (λ file. get (reads new.files) file) (last_state first states).durable
+  pub denoted : Denotes (as_left (reads new.files)) (last_state first states).durable
 
--- it is none of these
-abbrev pub IsAnyBut : List ℕ → ℕ → Type 0
-IsAnyBut [] status = Unit {0}
-IsAnyBut (other ∷ others) status = (status ≢ other) × IsAnyBut others status
+-- The same from the state that is opened from what the files denote.
+pub record ServesOpened (ids : ℕ) (input : List ℕ) (old new : Account) : Type 0 where
+  pub durable : Durable
+  pub denoted : Denotes (as_read old.files) durable
+  pub serves : ServesInput (opened_from ids durable) input old new
 
 -- The site is honest, no device failed, the input was told and is no longer than its limit, and no line would grow the journal
 -- past its own.

@@ -8,9 +8,10 @@ use Rattle.pg_msg.specs.declared.command.Command.{Command}
 use Rattle.pg_msg.specs.declared.reply.Reply.{Reply}
 use Rattle.pg_text.specs.Spelling.{ReadAs}
 use Rattle.pg_text.specs.Replies.{reply_bytes, BeginsNext}
+use Rattle.pg_journal.specs.Generations.{as_left}
 use Rattle.pg_engine.specs.declared.engine.Engine.{Engine}
-use Rattle.pg_engine.specs.Broker.{Durable, Broker, Run, last_state}
-use Rattle.pg_engine.specs.Denotation.{Denotes}
+use Rattle.pg_recover.specs.Broker.{Durable, Broker, Run, last_state}
+use Rattle.pg_recover.specs.Denotation.{Denotes}
 use Rattle.pg_engine.specs.Executed.{StandsAt}
 
 -- the first n replies are told whole, and of the next one a part that isn't the whole
@@ -29,17 +30,21 @@ pub record IsBetween (first : Broker) (replies : List Reply) (states : List Brok
   pub more : List ℕ
   pub bytes : told ≡ before ++ more
   pub tells : Tells replies n more
-  pub denoted : Denotes (λ file. get image file) (last_state first (take k states)).durable
+  pub denoted : Denotes (as_left image) (last_state first (take k states)).durable
 
 -- what a crash leaves within a run that began where this was told
 pub record LeavesBetween (first : Broker) (replies : List Reply) (states : List Broker) (entry : Option Account) (image : Files) (told : List ℕ) : Type 0 where
   pub honest : IsHonest entry
   pub between : IsBetween first replies states (account entry).told image told
 
--- what a crash leaves within a run that began with opening: what was there before and nothing told, or a moment of the run
-pub record LeavesRun (durable : Durable) (first : Broker) (replies : List Reply) (states : List Broker) (entry : Option Account) (image : Files) (told : List ℕ) : Type 0 where
+-- What a crash leaves within a run that began with opening, where that is asked: what was denoted before and nothing told, or a moment of the run.
+pub record LeavesRun (asked : Option Account → Type 0) (durable : Durable) (first : Broker) (replies : List Reply) (states : List Broker) (entry : Option Account) (image : Files) (told : List ℕ) : Type 0 where
   pub honest : IsHonest entry
-  pub moment : ((told ≡ (account entry).told) × Denotes (λ file. get image file) durable) ⊎ IsBetween first replies states (account entry).told image told
+  pub moment : asked entry → ((told ≡ (account entry).told) × Denotes (as_left image) durable) ⊎ IsBetween first replies states (account entry).told image told
+
+-- nothing more is asked
+abbrev pub AnyTime : Option Account → Type 0
+AnyTime tells = Unit {0}
 
 -- One run over the first of the lines, with every moment in it. The last line of the run may have been interrupted: its
 -- reply was then not told, or not the whole of it.

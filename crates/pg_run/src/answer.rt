@@ -9,7 +9,7 @@ ghost use Rattle.pg_msg.specs.declared.command.Command.{Command};
 ghost use Rattle.pg_msg.specs.Replies.{IsBuilt};
 ghost use Rattle.pg_text.specs.Spelling.{ReadsAs};
 ghost use Rattle.pg_engine.specs.Executed.{Owns, Executes, MeetsLimit, state_of};
-ghost use Rattle.pg_engine.specs.Opened.{IsDamaged};
+ghost use Rattle.pg_engine.specs.Executed.{IsDamaged};
 ghost use Rattle.pg_run.specs.Answered.{Answers, IsDamagedSite};
 
 use pg_disk::{Disk, Fault, Site, SiteFault};

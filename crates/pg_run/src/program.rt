@@ -1,12 +1,14 @@
 // The program: what its words ask for, over a site and a source.
 ghost use Rattle.std.specs.Prelude.{◌≡◌, ◌≢◌, ◌⊎◌, ◌↔◌, List, ℕ, Some, [], ◌∷◌, IsTrue, map, string_bytes};
 ghost use Rattle.pg_disk.specs.Account.{account, IsHonest};
-ghost use Rattle.pg_disk.specs.Calls.{Changes, Reads};
-ghost use Rattle.pg_engine.specs.Broker.{fresh, opened_from};
-ghost use Rattle.pg_engine.specs.Opened.{HasFile, HasNoFile};
+ghost use Rattle.pg_disk.specs.Calls.{Changes};
+ghost use Rattle.pg_journal.specs.Generations.{as_read};
+ghost use Rattle.pg_recover.specs.Broker.{Durable};
+ghost use Rattle.pg_recover.specs.Denotation.{Denotes};
+ghost use Rattle.pg_recover.specs.Recovered.{AreIllFormed, HasNoEpoch, OpensFiles};
+ghost use Rattle.pg_recover.specs.WellFormed.{WellFormed};
 ghost use Rattle.pg_run.specs.ProgramWords.{AreRunWords, IsDirectory};
-ghost use Rattle.pg_run.specs.Ran.{Ran, ServesInput, CountsStatus, IsProgramStatus, IsAnyBut, IsSpared};
-ghost use Rattle.pg_run.specs.Served.{LeavesRun};
+ghost use Rattle.pg_run.specs.Ran.{RanOpened, ServesOpened, CountsStatus, IsProgramStatus, IsAnyBut, IsSpared};
 
 use crate::serving::serve;
 use pg_disk::{Site, Source};
@@ -27,15 +29,16 @@ pub fn pagebroker<S: Site, R: Source>(
     ensures usage { (result ≡ 1) ↔ (AreRunWords (map string_bytes words.now.items) → ⊥) }
     ensures untouched { result ≡ 1 → (site.new ≡ site.old) × (source.new ≡ source.old) }
 
-    // Replies, statuses, and what a crash at any moment leaves.
-    ensures ran { result ≢ 1 → Ran (LeavesRun fresh) ⊥ (IsHonest (S.tells site.old) × HasNoFile (account (S.tells site.old)).files) S.moment S.left_since S.tells (opened_from LIMITS.ids fresh)
+    // Replies, statuses, and what a crash at any moment leaves, over whatever files are there.
+    ensures ran { result ≢ 1 → RanOpened (HasNoEpoch LIMITS.epochs (account (S.tells site.old)).files) S.moment S.left_since S.tells LIMITS.ids
         LIMITS.input (R.rest source.old) (R.rest source.new) site.old site.new result }
-    ensures served { result ≡ 0 → IsHonest (S.tells site.old) → HasNoFile (account (S.tells site.old)).files → (input : List ℕ) → R.rest source.old ≡ Some input →
-        (R.rest source.new ≡ Some []) × ServesInput (opened_from LIMITS.ids fresh) input (account (S.tells site.old)) (account (S.tells site.new)) }
+    ensures served { result ≡ 0 → IsHonest (S.tells site.old) → (input : List ℕ) → R.rest source.old ≡ Some input →
+        (R.rest source.new ≡ Some []) × ServesOpened LIMITS.ids input (account (S.tells site.old)) (account (S.tells site.new)) }
     ensures complete { result ≢ 1 → IsSpared S.tells (R.rest source.old) LIMITS.input site.old site.new (S.faults site.old) (S.faults site.new) (R.faults source.old) (R.faults source.new) →
-        HasNoFile (account (S.tells site.old)).files → (result ≡ 0) ⊎ (result ≡ 6) }
-    ensures empty { IsAnyBut (1 ∷ 2 ∷ 3 ∷ 6 ∷ []) result → IsHonest (S.tells site.old) → HasNoFile (account (S.tells site.old)).files }
-    ensures damaged { result ≡ 2 → HasFile (S.tells site.old) × Changes (S.tells site.old) (S.tells site.new) (Reads 0) }
+        WellFormed (as_read (account (S.tells site.old)).files) → (HasNoEpoch LIMITS.epochs (account (S.tells site.old)).files → ⊥) → (result ≡ 0) ⊎ (result ≡ 6) }
+    ensures denoted { IsAnyBut (1 ∷ 2 ∷ 3 ∷ 6 ∷ []) result → IsHonest (S.tells site.old) → (durable : Durable) × Denotes (as_read (account (S.tells site.old)).files) durable }
+    ensures epochs { IsAnyBut (1 ∷ 2 ∷ 3 ∷ 6 ∷ 8 ∷ []) result → IsHonest (S.tells site.old) → HasNoEpoch LIMITS.epochs (account (S.tells site.old)).files → ⊥ }
+    ensures damaged { result ≡ 2 → AreIllFormed (S.tells site.old) × Changes (S.tells site.old) (S.tells site.new) OpensFiles }
     ensures counts { CountsStatus (S.faults site.old) (S.faults site.new) (R.faults source.old) (R.faults source.new) result }
     ensures status { IsProgramStatus result }
 {

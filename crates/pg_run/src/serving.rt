@@ -1,11 +1,13 @@
 // The command `run` over a site and a source.
-ghost use Rattle.std.specs.Prelude.{◌≡◌, ◌⊎◌, ◌≤◌, ◌<◌, List, ℕ, Some, [], ◌∷◌, IfErr};
+ghost use Rattle.std.specs.Prelude.{◌≡◌, ◌⊎◌, List, ℕ, Some, [], ◌∷◌, IfErr};
 ghost use Rattle.pg_disk.specs.Account.{account, IsHonest};
-ghost use Rattle.pg_disk.specs.Calls.{Changes, Reads};
-ghost use Rattle.pg_engine.specs.Broker.{fresh, opened_from};
-ghost use Rattle.pg_engine.specs.Opened.{HasFile, HasNoFile};
-ghost use Rattle.pg_run.specs.Ran.{Ran, ServesInput, status_of, status_of_stop, CountsStop, CountsStatus, IsDamagedStop, IsStatus, IsAnyBut, IsSpared};
-ghost use Rattle.pg_run.specs.Served.{LeavesRun};
+ghost use Rattle.pg_disk.specs.Calls.{Changes};
+ghost use Rattle.pg_journal.specs.Generations.{as_read};
+ghost use Rattle.pg_recover.specs.Broker.{Durable};
+ghost use Rattle.pg_recover.specs.Denotation.{Denotes};
+ghost use Rattle.pg_recover.specs.Recovered.{AreIllFormed, HasNoEpoch, OpensFiles};
+ghost use Rattle.pg_recover.specs.WellFormed.{WellFormed};
+ghost use Rattle.pg_run.specs.Ran.{RanOpened, ServesOpened, status_of, status_of_stop, CountsStop, CountsStatus, IsDamagedStop, IsStatus, IsAnyBut, IsSpared};
 
 use crate::run::{Stop, answer_lines};
 use pg_disk::{Fault, Site, SiteFault, Source};
@@ -14,18 +16,18 @@ use pg_lines::ReadError;
 use pg_msg::Limits;
 use std::alloc::Global;
 
-/// The command `run`: opens the broker, executes the lines of the source in order, and tells each reply once its line's
-/// change is on the disk. It answers the program's status (`docs/FORMATS.md`).
+/// The command `run`: opens the broker in the state that the files denote, executes the lines of the source in order, and
+/// tells each reply once its line's change is on the disk. It answers the program's status (`docs/FORMATS.md`).
 pub fn serve<S: Site, R: Source>(alloc: Global, source: &mut R, site: &mut S, limits: &Limits) -> u8
-    ensures ran { Ran (LeavesRun fresh) (limits.now.epochs ≤ 1) (IsHonest (S.tells site.old) × HasNoFile (account (S.tells site.old)).files) S.moment S.left_since S.tells (opened_from limits.now.ids fresh)
+    ensures ran { RanOpened (HasNoEpoch limits.now.epochs (account (S.tells site.old)).files) S.moment S.left_since S.tells limits.now.ids
         limits.now.input (R.rest source.old) (R.rest source.new) site.old site.new result }
-    ensures served { result ≡ 0 → IsHonest (S.tells site.old) → HasNoFile (account (S.tells site.old)).files → (input : List ℕ) → R.rest source.old ≡ Some input →
-        (R.rest source.new ≡ Some []) × ServesInput (opened_from limits.now.ids fresh) input (account (S.tells site.old)) (account (S.tells site.new)) }
+    ensures served { result ≡ 0 → IsHonest (S.tells site.old) → (input : List ℕ) → R.rest source.old ≡ Some input →
+        (R.rest source.new ≡ Some []) × ServesOpened limits.now.ids input (account (S.tells site.old)) (account (S.tells site.new)) }
     ensures complete { IsSpared S.tells (R.rest source.old) limits.now.input site.old site.new (S.faults site.old) (S.faults site.new) (R.faults source.old) (R.faults source.new) →
-        HasNoFile (account (S.tells site.old)).files → 1 < limits.now.epochs → (result ≡ 0) ⊎ (result ≡ 6) }
-    ensures damaged { result ≡ 2 → HasFile (S.tells site.old) × Changes (S.tells site.old) (S.tells site.new) (Reads 0) }
-    ensures empty { IsAnyBut (2 ∷ 3 ∷ 6 ∷ []) result → IsHonest (S.tells site.old) → HasNoFile (account (S.tells site.old)).files }
-    ensures epochs { IsAnyBut (2 ∷ 3 ∷ 6 ∷ 8 ∷ []) result → 1 < limits.now.epochs }
+        WellFormed (as_read (account (S.tells site.old)).files) → (HasNoEpoch limits.now.epochs (account (S.tells site.old)).files → ⊥) → (result ≡ 0) ⊎ (result ≡ 6) }
+    ensures damaged { result ≡ 2 → AreIllFormed (S.tells site.old) × Changes (S.tells site.old) (S.tells site.new) OpensFiles }
+    ensures denoted { IsAnyBut (2 ∷ 3 ∷ 6 ∷ []) result → IsHonest (S.tells site.old) → (durable : Durable) × Denotes (as_read (account (S.tells site.old)).files) durable }
+    ensures epochs { IsAnyBut (2 ∷ 3 ∷ 6 ∷ 8 ∷ []) result → IsHonest (S.tells site.old) → HasNoEpoch limits.now.epochs (account (S.tells site.old)).files → ⊥ }
     ensures counts { CountsStatus (S.faults site.old) (S.faults site.new) (R.faults source.old) (R.faults source.new) result }
     ensures status { IsStatus result }
 {
@@ -42,11 +44,11 @@ fn run<S: Site, R: Source>(
     site: &mut S,
     limits: &Limits,
 ) -> Result<(), Stop>
-    ensures ran { Ran (LeavesRun fresh) (limits.now.epochs ≤ 1) (IsHonest (S.tells site.old) × HasNoFile (account (S.tells site.old)).files) S.moment S.left_since S.tells (opened_from limits.now.ids fresh)
+    ensures ran { RanOpened (HasNoEpoch limits.now.epochs (account (S.tells site.old)).files) S.moment S.left_since S.tells limits.now.ids
         limits.now.input (R.rest source.old) (R.rest source.new) site.old site.new (status_of result) }
-    ensures damaged { IfErr result (λ stop. IsDamagedStop stop → HasFile (S.tells site.old) × Changes (S.tells site.old) (S.tells site.new) (Reads 0)) }
-    ensures empty { IsAnyBut (2 ∷ 3 ∷ 6 ∷ []) (status_of result) → IsHonest (S.tells site.old) → HasNoFile (account (S.tells site.old)).files }
-    ensures epochs { IsAnyBut (2 ∷ 3 ∷ 6 ∷ 8 ∷ []) (status_of result) → 1 < limits.now.epochs }
+    ensures damaged { IfErr result (λ stop. IsDamagedStop stop → AreIllFormed (S.tells site.old) × Changes (S.tells site.old) (S.tells site.new) OpensFiles) }
+    ensures denoted { IsAnyBut (2 ∷ 3 ∷ 6 ∷ []) (status_of result) → IsHonest (S.tells site.old) → (durable : Durable) × Denotes (as_read (account (S.tells site.old)).files) durable }
+    ensures epochs { IsAnyBut (2 ∷ 3 ∷ 6 ∷ 8 ∷ []) (status_of result) → IsHonest (S.tells site.old) → HasNoEpoch limits.now.epochs (account (S.tells site.old)).files → ⊥ }
     ensures cause { CountsStop (S.faults site.old) (S.faults site.new) (R.faults source.old) (R.faults source.new) result }
 {
     let engine = open(alloc, site, limits)?;

@@ -1,11 +1,7 @@
-use crate::stage::{JOURNAL, run};
+use crate::stage::{EXAMPLE, JOURNAL, run};
 use pg_disk::{CallKind, MemSite, Pick};
 use std::alloc::AllocError;
 use std::test::Fail;
-
-// The script of `examples/first.script`.
-const SCRIPT: &[u8] =
-    b"address A max 50 page 100 ahead 0 dup 0\nqueue Q on A\nsend A body aaaaa\nsend A body aaaaa\nsend A body aaaaa\nsend A body aaaaa\ncount Q\nreceive C\n";
 
 /// What stands at the front of the bytes, read by the rule of gated files: how many batches, and where the last ends.
 fn counted(bytes: &[u8]) -> (usize, usize) {
@@ -70,12 +66,12 @@ fn left(
 #[test]
 fn a_crash_leaves_every_command_whose_reply_was_told(rt: HostRuntime) -> Result<(), Fail> {
     let mut site = MemSite::new(rt.alloc());
-    assert_eq!(rt; run(rt.alloc(), &mut site, SCRIPT)?, 0);
+    assert_eq!(rt; run(rt.alloc(), &mut site, EXAMPLE)?, 0);
     let whole = site.bytes(JOURNAL).ok_or("journal")?;
     // The epoch, the address, the queue, and three messages; behind them the closed gate alone.
     assert_eq!(rt; counted(whole), (6, 200));
-    assert_eq!(rt; site.calls(), 46);
-    for stop in 1..47u64 {
+    assert_eq!(rt; site.calls(), 47);
+    for stop in 1..48u64 {
         if changes(site.call(stop)) {
             for pick in [
                 Pick::Old,
@@ -101,14 +97,14 @@ fn a_crash_leaves_every_command_whose_reply_was_told(rt: HostRuntime) -> Result<
 #[test]
 fn a_gate_that_is_half_written_is_open_only_where_it_reads_1(rt: HostRuntime) -> Result<(), Fail> {
     let mut site = MemSite::new(rt.alloc());
-    assert_eq!(rt; run(rt.alloc(), &mut site, SCRIPT)?, 0);
+    assert_eq!(rt; run(rt.alloc(), &mut site, EXAMPLE)?, 0);
     let whole = site.bytes(JOURNAL).ok_or("journal")?;
     // The last message is the third. Its gate is opened by the last write, before the last sync.
-    assert_eq!(rt; site.calls(), 46);
-    assert_eq!(rt; site.call(45), Some(CallKind::Write(JOURNAL)));
+    assert_eq!(rt; site.calls(), 47);
+    assert_eq!(rt; site.call(46), Some(CallKind::Write(JOURNAL)));
     let table = [(Pick::Old, 5), (Pick::Fill(7), 5), (Pick::Fill(1), 6)];
     for (pick, batches) in table {
-        let (told, count) = left(&site, whole, 45, pick)?.ok_or("other batches")?;
+        let (told, count) = left(&site, whole, 46, pick)?.ok_or("other batches")?;
         assert_eq!(rt; count, batches);
         assert_eq!(rt; told, 4);
     }

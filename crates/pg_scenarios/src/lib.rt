@@ -12,6 +12,8 @@ mod full_counts;
 #[cfg(test)]
 mod messages;
 #[cfg(test)]
+mod openings;
+#[cfg(test)]
 mod scripts;
 #[cfg(test)]
 mod stage;

@@ -78,24 +78,6 @@ fn a_line_that_is_too_long_is_unreadable(rt: HostRuntime) -> Result<(), Fail> {
 }
 
 #[test]
-fn a_directory_with_a_file_is_left_alone(rt: HostRuntime) -> Result<(), Fail> {
-    let mut site = MemSite::new(rt.alloc());
-    site.put(JOURNAL, b"\x07")?;
-    assert_eq!(rt;
-        run(
-            rt.alloc(),
-            &mut site,
-            b"address A max 0 page 1 ahead 0 dup 0\n"
-        )?,
-        2
-    );
-    assert_eq!(rt; site.told(), b"".as_slice());
-    assert_eq!(rt; site.bytes(JOURNAL).ok_or("journal")?, b"\x07".as_slice());
-    assert_eq!(rt; site.calls(), 1);
-    Ok(())
-}
-
-#[test]
 fn other_words_are_refused(rt: HostRuntime) -> Result<(), Fail> {
     let refused: [&[&str]; 8] = [
         &["pagebroker"],

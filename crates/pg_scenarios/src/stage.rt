@@ -10,6 +10,10 @@ pub const JOURNAL: FileId = FileId {
     number: 1,
 };
 
+/// The script of `examples/first.script`.
+pub const EXAMPLE: &[u8] =
+    b"address A max 50 page 100 ahead 0 dup 0\nqueue Q on A\nsend A body aaaaa\nsend A body aaaaa\nsend A body aaaaa\nsend A body aaaaa\ncount Q\nreceive C\n";
+
 /// The words of the program.
 pub fn words_of(alloc: Global, words: &[&str]) -> Result<Vec<String>, AllocError> {
     let mut owned = Vec::new(alloc);
