@@ -1,41 +1,42 @@
 -- Opening over files of which nothing is pending.
-use Rattle.std.proofs.Common.{◌≡◌, ◌≢◌, ◌⊎◌, inl, inr, ⊎_elim, ℕ, ◌+◌, ◌^◌, ◌≤◌, ◌<◌, List, [], length, get_or, Option, Some, None, Result, Ok, Err, refl, sym, ◌∙◌, ap, subst, arith}
-use Rattle.std.specs.Prelude.{IfOk, IfErr}
-use Rattle.std.specs.FinMap.{FinMap, get, keys}
+use Rattle.std.proofs.Common.{◌≡◌, ◌⊎◌, inl, inr, ⊎_elim, ℕ, ◌+◌, ◌^◌, ◌≤◌, ◌<◌, List, length, get_or, Option, Some, None, Result, Ok, Err, refl, sym, ◌∙◌, ap, subst, arith}
+use Rattle.std.specs.Prelude.{IfOk}
+use Rattle.std.specs.FinMap.{get, keys}
 use Rattle.std.specs.List.{Contains}
 use Rattle.pg_disk.specs.declared.fault.Fault.{Fault}
 use Rattle.pg_disk.specs.declared.fault.Fault.TheVariants.{Failed, Damaged, Spent, Memory}
 use Rattle.pg_disk.specs.declared.file_id.FileId.{FileId}
-use Rattle.pg_disk.specs.declared.file_id.Kind.TheVariants.{Journal as OfJournal}
-use Rattle.pg_disk.specs.Files.{file_cmp, Files}
+use Rattle.pg_disk.specs.Files.{Files}
 use Rattle.pg_disk.specs.Account.{FileState, Account, account, IsHonest}
 use Rattle.pg_disk.specs.Calls.{Changes}
 use Rattle.pg_disk.specs.Image.{IsFileThere}
 use Rattle.pg_gate.specs.Gated.{opened}
 use Rattle.pg_gate.proofs.Unique.{stands_length}
 use Rattle.pg_fold.specs.declared.durable.Durable.{Durable}
+use Rattle.pg_fold.specs.Sound.{IsSound}
 use Rattle.pg_journal.specs.declared.journal.Journal.{Journal}
 use Rattle.pg_journal.specs.Generations.{as_read, as_left, bytes_of}
 use Rattle.pg_journal.specs.Looks.{ReadsGenerations}
 use Rattle.pg_journal.specs.Stands.{StaysOrSettles, counted, name_of}
+use Rattle.pg_journal.proofs.Law.{journal_unique}
 use Rattle.pg_journal.proofs.Scanned.{stays_away, stays_there}
 use Rattle.pg_recover.specs.declared.opening.Parts.{Parts}
 use Rattle.pg_recover.specs.Denotation.{FoldsTo, raised}
 use Rattle.pg_recover.specs.Listing.{AreListed}
 use Rattle.pg_recover.specs.Raising.{IsReady, IsUnfit, LeavesRaised}
-use Rattle.pg_recover.specs.Recovered.{AllQuiet, AreIllFormed, HasNoEpoch, IsIllFormed, IsSpentAt, LeavesOpened, OpensFiles, Owns}
-use Rattle.pg_recover.specs.Removing.{IsOther, ListsOthers}
+use Rattle.pg_recover.specs.Recovered.{AllQuiet, AreIllFormed, HasNoEpoch, IsBegun, IsIllFormed, IsSpentAt, LeavesOpened, OpensFiles, Owns}
+use Rattle.pg_recover.specs.Removing.{IsOther}
 use Rattle.pg_recover.specs.Said.{IsReadFrom, LeavesSaid}
-use Rattle.pg_recover.specs.WellFormed.{AreRoomy, WellFormed}
+use Rattle.pg_recover.specs.WellFormed.{AreRoomy}
 use Rattle.pg_recover.proofs.OneState.{folds_to, state_is}
-use Rattle.pg_recover.proofs.OrderLemmas.{all_there, ascend_apart, listed_there, listing_ascends, listing_shows, there_listed}
+use Rattle.pg_recover.proofs.OrderLemmas.{all_there, ascend_apart, listing_ascends, listing_shows, there_listed}
 
 -- while the journal is read
-pub said_leaves : (old : Option Account) (c : Files) (b : List ℕ) → LeavesSaid old c b → LeavesOpened old c b
+pub said_leaves : (old : Option Account) (c : Files) (b : List ℕ) → LeavesSaid old c b → LeavesOpened (Unit {0}) old c b
 said_leaves old c b left = record {
   honest = left.honest;
   nothing = left.nothing;
-  denotes = λ d folds. inl (record { batches = folds.batches; entries = folds.entries; says = left.says folds.batches folds.says; spelled = folds.spelled; folded = folds.folded });
+  denotes = λ _ d folds. inl (record { batches = folds.batches; entries = folds.entries; says = left.says folds.batches folds.says; spelled = folds.spelled; folded = folds.folded });
 }
 
 pub reads_open : (old mid : Option Account) → Changes old mid ReadsGenerations → Changes old mid OpensFiles
@@ -57,14 +58,14 @@ opens_then old mid new first second = record {
 
 -- the journal was read
 module _ (old mid : Option Account) (stays : Changes old mid ReadsGenerations) (journal : Journal) (d : Durable) (read : IsHonest old → IsReadFrom journal d (account old).files (account mid).files) where
-  pub raised_leaves : (c : Files) (b : List ℕ) → LeavesRaised journal d mid c b → LeavesOpened old c b
+  pub raised_leaves : (c : Files) (b : List ℕ) → LeavesRaised journal d mid c b → LeavesOpened (Unit {0}) old c b
   raised_leaves c b left =
       let honest = stays.back left.honest in
       let is = read honest in
       record {
         honest = honest;
         nothing = left.nothing ∙ (stays.step honest).told;
-        denotes = λ e folds. let same = state_is (as_read (account old).files) is.batches d e is.says is.folds folds in
+        denotes = λ _ e folds. let same = state_is (as_read (account old).files) is.batches d e is.says is.folds folds in
             subst (λ s. FoldsTo (as_left c) s ⊎ FoldsTo (as_left c) (raised s)) (sym same) (left.denotes is.batches is.stands is.folds);
       }
 
@@ -119,11 +120,28 @@ module _ (old mid : Option Account) (stays : Changes old mid ReadsGenerations) (
           spent = ⊎_elim (λ past. inl past) (λ full. inr (omega (arith, full, stands_length journal.rest is.batches (get (account mid).files (name_of journal)) is.stands.stands))) none;
         }
 
+    -- and where there is one, it isn't so that there is none
+    pub has_epoch : (epochs : ℕ) → d.epoch + 1 < epochs → counted journal + 14 ≤ 2 ^ 62 → IsHonest old → HasNoEpoch epochs (account old).files → ⊥
+    has_epoch epochs next room honest none =
+        let is = read honest in
+        let same : none.state ≡ d = state_is (as_read (account old).files) is.batches d none.state is.says is.folds none.folds in
+        let batches : none.folds.batches ≡ is.batches = journal_unique (as_read (account old).files) none.folds.batches is.batches none.folds.says is.says in
+        ⊎_elim (λ past. let epoch : none.state.epoch ≡ d.epoch = ap (λ (s : Durable). s.epoch) same in omega (arith, past, next, epoch))
+        (λ full.
+        let size : length (opened none.folds.batches) ≡ length (opened is.batches) = ap (λ bs. length (opened bs)) batches in
+        omega (arith, full, room, size, stands_length journal.rest is.batches (get (account mid).files (name_of journal)) is.stands.stands))
+        none.spent
+
     pub check_spent : (epochs : ℕ) (e : Fault) → IsUnfit ids journal d epochs e → IsSpentAt epochs old e
     check_spent epochs Failed unfit = tt
     check_spent epochs (Damaged damage) unfit = tt
     check_spent epochs Spent unfit = no_epoch epochs unfit
     check_spent epochs Memory unfit = tt
+
+  -- the state that is begun behind a sound one
+  pub all_begun : IsSound d → (result : Result Parts Fault) → IfOk result (λ parts. parts.durable ≡ raised d) → IfOk result (λ parts. IsBegun parts.durable)
+  all_begun sound (Ok parts) is = record { before = d; sound = sound; is = is }
+  all_begun sound (Err e) is = tt
 
   -- what an opening comes to
   pub all_recovered : (new : Option Account) (result : Result Parts Fault) → IfOk result (λ parts. parts.durable ≡ raised d)

@@ -1,5 +1,5 @@
 -- The listing ascends, so a page stands right behind the page before it.
-use Rattle.std.proofs.Common.{◌≡◌, ◌≢◌, ◌⊎◌, inl, inr, ⊎_elim, ℕ, ◌+◌, ◌-◌, ◌≤◌, ◌<◌, Bool, true, false, ◌&&◌, T, List, [], ◌∷◌, length, map, get_or, Option, Some, None, refl, sym, ◌∙◌, ap, subst, arith, is_lt, nat_cmp}
+use Rattle.std.proofs.Common.{◌≡◌, ◌≢◌, ◌⊎◌, inl, inr, ℕ, ◌-◌, ◌<◌, Bool, true, false, ◌&&◌, T, List, [], ◌∷◌, map, get_or, Option, Some, None, refl, sym, ◌∙◌, ap, subst, arith, is_lt, nat_cmp}
 use Rattle.std.specs.Prelude.{is_some, ◌||◌}
 use Rattle.std.specs.FinMap.{FinMap, get, keys, entries, entries_sorted, contains_key-keys}
 use Rattle.std.specs.FinMap.Entries.{below_all, is_sorted}
@@ -21,7 +21,7 @@ use Rattle.pg_disk.proofs.FileOrder.{files_exact, files_total, tied_self}
 use Rattle.pg_fold.specs.declared.rows.AddressRow.{AddressRow}
 use Rattle.pg_journal.specs.Generations.{Contents, as_read, bytes_of}
 use Rattle.pg_journal.specs.Stands.{IsQuietAt}
-use Rattle.pg_recover.specs.Listing.{AreListed, IsListed, IsNextAs}
+use Rattle.pg_recover.specs.Listing.{AreListed, IsNextAs}
 use Rattle.pg_recover.specs.WellFormed.{IsGapless, IsNamed, IsThere, page_file}
 
 -- one file comes before another in a listing

@@ -1,7 +1,8 @@
 use super::*;
 use pg_bytes::{Octets, Text, put_bytes, put_u8, put_u32, put_u64};
 use pg_disk::{Damage, Disk, Fault, FileId, Kind, MemSite, Rule};
-use pg_msg::Limits;
+use pg_fold::JournaledRow;
+use pg_msg::{Body, Limits, Message, MessageId, Properties, QueueIds};
 use pg_records::{Entry, encode_batch};
 use std::alloc::{AllocError, Global};
 use std::test::Fail;
@@ -322,5 +323,35 @@ fn tests_pages(rt: HostRuntime) -> Result<(), Fail> {
         let batches = vec![in alloc; made(alloc, 0)?]?;
         assert_eq!(rt; opened(alloc, &batches, pages)?, want, "{pages:?}");
     }
+    Ok(())
+}
+
+// A message with this body, for one queue of the address.
+fn row(alloc: Global, address: u32, number: u32, body: &[u8]) -> Result<JournaledRow, AllocError> {
+    let mut bytes = Octets::new(alloc);
+    put_bytes(&mut bytes, body)?;
+    Ok(JournaledRow {
+        address,
+        message: Message {
+            id: MessageId { epoch: 1, number },
+            dup: None,
+            properties: Properties::new(alloc),
+            body: Body::Plain(bytes),
+        },
+        holders: QueueIds::from_vec(vec![in alloc; 1]?),
+    })
+}
+
+#[test]
+fn weighs_by_address(rt: HostRuntime) -> Result<(), Fail> {
+    let alloc = rt.alloc();
+    let rows = vec![in alloc;
+        row(alloc, 2, 1, b"abc")?,
+        row(alloc, 1, 2, b"")?,
+        row(alloc, 2, 3, b"hello, world")?,
+    ]?;
+    // A body of 3 bytes and one of 12 are at the second address, each with 15 bytes beside it. The third has no messages.
+    let sums = weights_by_address(alloc, 3, &rows)?;
+    assert_eq!(rt; sums.as_slice(), [15, 45, 0].as_slice());
     Ok(())
 }
