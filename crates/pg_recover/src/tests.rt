@@ -1,3 +1,6 @@
+ghost use Rattle.std.specs.Prelude.{◌<◌, ◌^◌, IfOk};
+ghost use Rattle.pg_msg.specs.Messages.{HasFields};
+
 use super::*;
 use pg_bytes::{Octets, Text, put_bytes, put_u8, put_u32, put_u64};
 use pg_disk::{Damage, Disk, Fault, FileId, Kind, MemSite, Rule};
@@ -326,17 +329,21 @@ fn tests_pages(rt: HostRuntime) -> Result<(), Fail> {
     Ok(())
 }
 
-// A message with this body, for one queue of the address.
-fn row(alloc: Global, address: u32, number: u32, body: &[u8]) -> Result<JournaledRow, AllocError> {
-    let mut bytes = Octets::new(alloc);
-    put_bytes(&mut bytes, body)?;
+// A message of so many bytes, for one queue of the address.
+fn row(alloc: Global, address: u32, size: usize) -> Result<JournaledRow, AllocError>
+    requires { size < 2 ^ 32 }
+    ensures { IfOk result (λ row. HasFields row.message) }
+{
     Ok(JournaledRow {
         address,
         message: Message {
-            id: MessageId { epoch: 1, number },
+            id: MessageId {
+                epoch: 1,
+                number: 1,
+            },
             dup: None,
             properties: Properties::new(alloc),
-            body: Body::Plain(bytes),
+            body: Body::Plain(Octets::from_vec(vec![in alloc; 7; size]?)),
         },
         holders: QueueIds::from_vec(vec![in alloc; 1]?),
     })
@@ -345,12 +352,8 @@ fn row(alloc: Global, address: u32, number: u32, body: &[u8]) -> Result<Journale
 #[test]
 fn weighs_by_address(rt: HostRuntime) -> Result<(), Fail> {
     let alloc = rt.alloc();
-    let rows = vec![in alloc;
-        row(alloc, 2, 1, b"abc")?,
-        row(alloc, 1, 2, b"")?,
-        row(alloc, 2, 3, b"hello, world")?,
-    ]?;
-    // A body of 3 bytes and one of 12 are at the second address, each with 15 bytes beside it. The third has no messages.
+    let rows = vec![in alloc; row(alloc, 2, 3)?, row(alloc, 1, 0)?, row(alloc, 2, 12)?]?;
+    // Each has 15 bytes beside its body. The third address has no messages.
     let sums = weights_by_address(alloc, 3, &rows)?;
     assert_eq!(rt; sums.as_slice(), [15, 45, 0].as_slice());
     Ok(())
