@@ -19,7 +19,7 @@ use Rattle.pg_journal.specs.Stands.{IsQuietAt}
 use Rattle.pg_journal.proofs.Saying.{left_keeps, quiet_says}
 use Rattle.pg_recover.specs.declared.opening.Parts.{Parts}
 use Rattle.pg_recover.specs.Denotation.{FoldsTo, raised}
-use Rattle.pg_recover.specs.Recovered.{AllQuiet, BeganQuiet, HasNoEpoch, IsIllFormed, IsSpentAt, LeavesOpened, OpensFiles, Owns}
+use Rattle.pg_recover.specs.Recovered.{AllQuiet, AreKept, BeganQuiet, HasNoEpoch, IsIllFormed, IsSpentAt, KeepsFiles, LeavesOpened, OpensFiles, Owns}
 use Rattle.pg_recover.specs.Syncing.{NarrowsAt, SyncsFiles}
 use Rattle.pg_recover.specs.WellFormed.{WellFormed}
 use Rattle.pg_recover.proofs.OrderLemmas.{all_quiet, all_there, same_keys}
@@ -122,6 +122,30 @@ module _ (old mid now : Option Account) (same : Changes old mid (Reads 0)) (sync
       }
   opened_spent epochs Memory is = tt
 
+  keeps_first : (new : Option Account) → Changes now new KeepsFiles → Changes old new KeepsFiles
+  keeps_first new keeps = record {
+    kept = λ h. keeps.kept (sync_opens.kept h);
+    back = λ h. sync_opens.back (keeps.back h);
+    step = λ h.
+        let b = keeps.step (sync_opens.kept h) in
+        let same : (file : FileId) → as_read (account now).files file ≡ as_read (account old).files file = λ file. ap (λ (contents : Contents). contents file) (reads_as h) in
+        record {
+          told = b.told ∙ (sync_opens.step h).told;
+          others = λ file kind. b.others file kind ∙ same file;
+          generations = λ file kind bytes is solid. b.generations file kind bytes (same file ∙ is) solid;
+          made = λ file kind none. b.made file kind (same file ∙ none);
+        };
+  }
+
+  pub opened_kept : (new : Option Account) (e : Fault) → AreKept now new e → AreKept old new e
+  opened_kept new Failed is = tt
+  opened_kept new (Damaged damage) is = keeps_first new is
+  opened_kept new Spent is = keeps_first new is
+  opened_kept new Memory is = tt
+
+  pub seen_first : (P : Contents → Type 0) → (IsHonest now → P (as_read (account now).files)) → IsHonest old → P (as_read (account old).files)
+  seen_first P is honest = subst P (reads_as honest) (is (sync_opens.kept honest))
+
   pub recovered_first : (new : Option Account) (parts : Parts)
       → (IsHonest now → (d : Durable) × FoldsTo (as_read (account now).files) d × (parts.durable ≡ raised d) × Owns parts.journal parts.durable (account new).files × AllQuiet (account new).files)
       → IsHonest old → (d : Durable) × FoldsTo (as_read (account old).files) d × (parts.durable ≡ raised d) × Owns parts.journal parts.durable (account new).files × AllQuiet (account new).files
@@ -157,6 +181,21 @@ module _ (old mid now : Option Account) (same : Changes old mid (Reads 0)) (sync
       by : (r : Result Parts Fault) → IfErr r (IsSpentAt epochs now) → IfErr r (IsSpentAt epochs old)
       by (Ok parts) is = tt
       by (Err e) is = opened_spent old mid now same synced epochs e is
+
+  pub all_kept : (new : Option Account) → IfErr result (AreKept now new) → IfErr result (AreKept old new)
+  all_kept new = by result
+    where
+      by : (r : Result Parts Fault) → IfErr r (AreKept now new) → IfErr r (AreKept old new)
+      by (Ok parts) is = tt
+      by (Err e) is = opened_kept old mid now same synced new e is
+
+  -- what is said of the contents and the parts
+  pub all_seen : (P : Contents → Parts → Type 0) → IfOk result (λ parts. IsHonest now → P (as_read (account now).files) parts) → IfOk result (λ parts. IsHonest old → P (as_read (account old).files) parts)
+  all_seen P = by result
+    where
+      by : (r : Result Parts Fault) → IfOk r (λ parts. IsHonest now → P (as_read (account now).files) parts) → IfOk r (λ parts. IsHonest old → P (as_read (account old).files) parts)
+      by (Ok parts) is = seen_first old mid now same synced (λ contents. P contents parts) is
+      by (Err e) is = tt
 
   pub all_next : (epochs : ℕ) → OnOk result (IsHonest now → HasNoEpoch epochs (account now).files → ⊥) → OnOk result (IsHonest old → HasNoEpoch epochs (account old).files → ⊥)
   all_next epochs = by result

@@ -6,8 +6,9 @@ use Rattle.pg_disk.specs.Account.{account}
 use Rattle.pg_disk.specs.Image.{IsFileThere}
 use Rattle.pg_gate.proofs.Reading.{one_read}
 use Rattle.pg_journal.specs.Stands.{IsQuietAt}
+use Rattle.pg_recover.specs.WellFormed.{IsGapless, IsNamed, IsThere}
 use Rattle.pg_recover.proofs.OpenLemmas.{opens_then}
-use Rattle.pg_recover.proofs.RecoverLemmas.{all_ill, all_moments, all_next, all_recovered, all_spent, can_sync, listed_now, listing_moments, moments_once_synced, on_ok, quiet_now, sync_moments, sync_opens}
+use Rattle.pg_recover.proofs.RecoverLemmas.{all_ill, all_kept, all_moments, all_next, all_recovered, all_seen, all_spent, can_sync, listed_now, listing_moments, moments_once_synced, on_ok, quiet_now, sync_moments, sync_opens}
 use Rattle.pg_recover.proofs.opening.recover.Goals as goal
 
 pub sync_all-requires : goal.sync_all-requires
@@ -66,3 +67,18 @@ returns-clause-spent g c =
 pub returns-clause-next : goal.returns-clause-next
 returns-clause-next g c =
     all_next (g.D.Disk.tells c.args.disk.now) (g.D.Disk.tells c.list.new.self) (g.D.Disk.tells c.sync_all.new.disk) c.list.ensures.same c.sync_all.ensures.stays c.open_synced.result c.args.limits.now.epochs c.open_synced.ensures.next
+
+pub returns-clause-named : goal.returns-clause-named
+returns-clause-named g c =
+    all_seen (g.D.Disk.tells c.args.disk.now) (g.D.Disk.tells c.list.new.self) (g.D.Disk.tells c.sync_all.new.disk) c.list.ensures.same c.sync_all.ensures.stays c.open_synced.result
+    (λ contents parts. (file : FileId) → IsThere contents file → IsNamed parts.durable.addresses file) c.open_synced.ensures.named
+
+pub returns-clause-gapless : goal.returns-clause-gapless
+returns-clause-gapless g c =
+    all_seen (g.D.Disk.tells c.args.disk.now) (g.D.Disk.tells c.list.new.self) (g.D.Disk.tells c.sync_all.new.disk) c.list.ensures.same c.sync_all.ensures.stays c.open_synced.result
+    (λ contents parts. All (IsGapless contents) parts.durable.addresses) c.open_synced.ensures.gapless
+
+pub returns-clause-kept : goal.returns-clause-kept
+returns-clause-kept g c =
+    all_kept (g.D.Disk.tells c.args.disk.now) (g.D.Disk.tells c.list.new.self) (g.D.Disk.tells c.sync_all.new.disk) c.list.ensures.same c.sync_all.ensures.stays c.open_synced.result (g.D.Disk.tells c.open_synced.new.disk)
+    c.open_synced.ensures.kept
