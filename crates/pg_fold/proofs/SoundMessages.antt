@@ -41,7 +41,7 @@ pairs_released queue (row ∷ rows) pairs =
     AllPairs-cons Differ (released queue row) (map (released queue) rows) (All-map (Differ row) (released queue) rows (pairs_head row rows pairs)) (pairs_released queue rows (pairs_tail row rows pairs))
 
 -- What an acknowledgement leaves has what each message has, where it stays as holders go.
-pub all_acknowledged : (P : JournaledRow → Type 0) (queue : ℕ) (id : MessageId) → ((row : JournaledRow) → is_held (released queue row) ≡ true → P row → P (released queue row)) → (rows : List JournaledRow) → All P rows
+all_acknowledged : (P : JournaledRow → Type 0) (queue : ℕ) (id : MessageId) → ((row : JournaledRow) → is_held (released queue row) ≡ true → P row → P (released queue row)) → (rows : List JournaledRow) → All P rows
     → All P (acknowledged queue id rows)
 all_acknowledged P queue id stays [] all = all
 all_acknowledged P queue id stays (row ∷ rows) all =

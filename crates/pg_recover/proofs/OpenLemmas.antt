@@ -40,13 +40,6 @@ said_leaves old c b left = record {
   denotes = λ _ d folds. inl (record { batches = folds.batches; entries = folds.entries; says = left.says folds.batches folds.says; spelled = folds.spelled; folded = folds.folded });
 }
 
-pub reads_open : (old mid : Option Account) → Changes old mid ReadsGenerations → Changes old mid OpensFiles
-reads_open old mid stays = record {
-  kept = stays.kept;
-  back = stays.back;
-  step = λ h. let a = stays.step h in record { told = a.told; taken = omega (arith, a.taken); others = λ file kind. ap bytes_of (a.others file kind) };
-}
-
 -- reading writes nothing but a mend
 keeps_bytes : (s t : Option FileState) → StaysOrMends s t → (bytes : List ℕ) → bytes_of s ≡ Some bytes → (IsMendable bytes → ⊥) → bytes_of t ≡ Some bytes
 keeps_bytes None t stays bytes is solid = cc

@@ -38,13 +38,6 @@ quiet_leaves old c b left = record {
   });
 }
 
-pub listing_opens : (old mid : Option Account) → Changes old mid (Reads 0) → Changes old mid OpensFiles
-listing_opens old mid same = record {
-  kept = same.kept;
-  back = same.back;
-  step = λ h. let a = same.step h in record { told = a.told; taken = omega (arith, a.taken); others = λ file kind. ap (λ m. bytes_of (get m file)) a.files };
-}
-
 narrows_bytes : (s t : Option FileState) → NarrowsAt s t → bytes_of t ≡ bytes_of s
 narrows_bytes None None narrows = refl
 narrows_bytes None (Some t) narrows = absurd narrows
