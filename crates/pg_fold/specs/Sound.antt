@@ -2,7 +2,6 @@
 use Rattle.std.specs.Prelude.{◌≡◌, ◌≢◌, ◌≤◌, ◌<◌, ℕ, true, false, List, [], length, All, AllPairs}
 use Rattle.std.specs.List.{list_all}
 use Rattle.pg_msg.specs.Messages.{IsMessage}
-use Rattle.pg_records.specs.declared.entry.Entry.{Entry}
 use Rattle.pg_fold.specs.declared.durable.Durable.{Durable}
 use Rattle.pg_fold.specs.declared.rows.AddressRow.{AddressRow}
 use Rattle.pg_fold.specs.declared.rows.JournaledRow.{JournaledRow}

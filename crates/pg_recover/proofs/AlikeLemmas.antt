@@ -1,5 +1,5 @@
 -- Payload after payload leads from state to state.
-use Rattle.std.proofs.Common.{◌≡◌, ℕ, ◌+◌, ◌<◌, ◌≤◌, Bool, true, false, cond, List, [], ◌∷◌, ◌++◌, length, map, get_or, drop, Option, Some, None, Result, Ok, Err, refl, sym, ◌∙◌, ap, subst, append_assoc, is_none, arith}
+use Rattle.std.proofs.Common.{◌≡◌, ℕ, ◌+◌, ◌<◌, ◌≤◌, Bool, true, false, cond, List, [], ◌∷◌, ◌++◌, length, map, get_or, drop, Option, Some, None, Result, Ok, Err, refl, sym, ◌∙◌, ap, subst, is_none, arith}
 use Rattle.std.specs.Option.{option_and_then}
 use Rattle.std.specs.Prelude.{IfOk, IfErr}
 use Rattle.std.proofs.lemmas.List.{append-nil, drop_more, drop_all}
@@ -9,12 +9,12 @@ use Rattle.pg_disk.specs.declared.fault.Fault.TheVariants.{Memory as NoMemory}
 use Rattle.pg_disk.specs.declared.fault.Rule.{Rule}
 use Rattle.pg_gate.specs.declared.spans.Span.{Span}
 use Rattle.pg_records.specs.declared.entry.Entry.{Entry}
-use Rattle.pg_records.specs.Entries.{SpellsBatch, SpellBatches}
+use Rattle.pg_records.specs.Entries.{SpellsBatch}
 use Rattle.pg_records.proofs.BatchLaws.{same_batch}
 use Rattle.pg_fold.specs.declared.durable.Durable.{Durable}
 use Rattle.pg_fold.specs.declared.fold_error.FoldError.{FoldError}
 use Rattle.pg_fold.specs.declared.fold_error.FoldError.TheVariants.{Broken, Memory}
-use Rattle.pg_fold.specs.Fold.{fold, rule_of, changed, IsApplied}
+use Rattle.pg_fold.specs.Fold.{fold, rule_of, IsApplied}
 use Rattle.pg_fold.proofs.FoldLaws.{fold-append}
 use Rattle.pg_recover.specs.Folding.{FoldsPayload, FoldsFrom, FoldsNowhere, AreAlike, IsBroken, IsDamage}
 

@@ -1,12 +1,11 @@
 -- The next epoch is begun.
-use Rattle.std.proofs.Common.{◌≡◌, ◌≢◌, ◌⊎◌, inl, inr, ⊎_elim, ℕ, ◌+◌, ◌^◌, ◌≤◌, ◌<◌, cond, List, [], ◌∷◌, ◌++◌, length, Option, Some, None, refl, sym, ◌∙◌, ap, subst, arith, append_assoc}
-use Rattle.std.specs.FinMap.{FinMap, get}
+use Rattle.std.proofs.Common.{◌≡◌, ◌≢◌, ◌⊎◌, inl, inr, ⊎_elim, ℕ, ◌+◌, ◌^◌, ◌<◌, cond, List, [], ◌∷◌, ◌++◌, Option, Some, None, refl, sym, ◌∙◌, ap, subst, arith, append_assoc}
+use Rattle.std.specs.FinMap.{get}
 use Rattle.std.proofs.lemmas.Bool.{lt-ltb}
 use Rattle.std.proofs.lemmas.List.{append-nil}
 use Rattle.pg_disk.specs.declared.fault.Rule.TheVariants.{Repeat}
 use Rattle.pg_disk.specs.declared.file_id.FileId.{FileId}
-use Rattle.pg_disk.specs.declared.file_id.Kind.TheVariants.{Journal as OfJournal}
-use Rattle.pg_disk.specs.Files.{file_cmp, Files}
+use Rattle.pg_disk.specs.Files.{Files}
 use Rattle.pg_disk.specs.Account.{FileState, Account, account, IsHonest}
 use Rattle.pg_disk.specs.Calls.{Changes, ChangesFile}
 use Rattle.pg_disk.specs.Image.{Leaves}
@@ -23,11 +22,11 @@ use Rattle.pg_journal.specs.Looks.{LeavesOldOrNew}
 use Rattle.pg_journal.specs.Stands.{IsQuietAt, Stands, name_of}
 use Rattle.pg_journal.proofs.Order.{same_or_not}
 use Rattle.pg_journal.proofs.Saying.{stands_kept, stands_says}
-use Rattle.pg_recover.specs.Denotation.{FoldsTo, raised}
+use Rattle.pg_recover.specs.Denotation.{raised}
 use Rattle.pg_recover.specs.Folding.{FoldsFrom}
 use Rattle.pg_recover.specs.Raising.{IsReady, LeavesRaised}
 use Rattle.pg_recover.specs.Recovered.{AllQuiet, Owns}
-use Rattle.pg_recover.specs.Removing.{HasNoOther, IsOther, LeavesOthersGone, RemovesOthers}
+use Rattle.pg_recover.specs.Removing.{HasNoOther, LeavesOthersGone, RemovesOthers}
 use Rattle.pg_recover.proofs.OneState.{folds_to}
 
 -- a batch more

@@ -1,5 +1,5 @@
 -- The journal is found and read.
-use Rattle.std.proofs.Common.{◌≡◌, ◌≢◌, ◌⊎◌, inl, inr, ⊎_elim, ℕ, ◌+◌, List, ◌++◌, ◌∷◌, [], length, Option, Some, None, refl, sym, ◌∙◌, ap, subst, arith}
+use Rattle.std.proofs.Common.{◌≡◌, ◌≢◌, ◌⊎◌, inl, ⊎_elim, ℕ, ◌+◌, List, ◌∷◌, [], length, Option, Some, None, refl, sym, ◌∙◌, ap, subst, arith}
 use Rattle.std.specs.FinMap.{FinMap, get}
 use Rattle.pg_disk.specs.declared.fault.Fault.{Fault}
 use Rattle.pg_disk.specs.declared.fault.Fault.TheVariants.{Failed, Damaged, Spent, Memory}
@@ -27,7 +27,6 @@ use Rattle.pg_recover.specs.Folding.{FoldsFrom, FoldsNowhere, IsDamageOnly}
 use Rattle.pg_recover.specs.Places.{AreInside, payloads_at}
 use Rattle.pg_recover.specs.Recovered.{AllQuiet, AreIllFormed}
 use Rattle.pg_recover.specs.Said.{IsReadFrom, LeavesSaid}
-use Rattle.pg_recover.specs.WellFormed.{WellFormed}
 use Rattle.pg_recover.proofs.OneState.{none_given}
 use Rattle.pg_recover.proofs.PlaceLemmas.{placed, placed_inside}
 

@@ -1,8 +1,8 @@
 -- Places that are read together.
-use Rattle.std.proofs.Common.{◌≡◌, ◌⊎◌, inl, inr, ℕ, ◌+◌, ◌≤◌, ◌<◌, List, length, take, get_or, refl, sym, ap, subst, arith}
+use Rattle.std.proofs.Common.{◌≡◌, ◌⊎◌, inl, inr, ℕ, ◌+◌, ◌≤◌, ◌<◌, List, length, take, get_or, sym, subst, arith}
 use Rattle.std.proofs.lemmas.List.{get_or-take, get_or_default, length-take-le}
 use Rattle.pg_gate.specs.declared.spans.Span.{Span}
-use Rattle.pg_recover.specs.Places.{IsCovered, Covers, IsInside, AreInside}
+use Rattle.pg_recover.specs.Places.{IsCovered, Covers}
 
 -- a place covers each of the first of these
 abbrev pub CoversFirst : Span → ℕ → List Span → Type 0

@@ -1,7 +1,6 @@
 pub mod AlikeLemmas
 pub mod EpochLemmas
 pub mod FindLemmas
-pub mod FitLemmas
 pub mod GroupLemmas
 pub mod ListLemmas
 pub mod OneState

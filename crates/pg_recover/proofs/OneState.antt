@@ -1,5 +1,5 @@
 -- A directory gives one state.
-use Rattle.std.proofs.Common.{◌≡◌, List, ℕ, refl, sym, subst}
+use Rattle.std.proofs.Common.{◌≡◌, List, ℕ, subst}
 use Rattle.pg_fold.specs.declared.durable.Durable.{Durable}
 use Rattle.pg_fold.specs.Fold.{fresh}
 use Rattle.pg_journal.specs.Generations.{Contents, JournalOf}

@@ -1,49 +1,84 @@
 -- Opening over files of which nothing is pending.
-use Rattle.std.proofs.Common.{◌≡◌, ◌≢◌, ◌⊎◌, inl, inr, ⊎_elim, ℕ, ◌+◌, ◌^◌, ◌≤◌, ◌<◌, List, [], length, get_or, Option, Some, None, Result, Ok, Err, refl, sym, ◌∙◌, ap, subst, arith}
+use Rattle.std.proofs.Common.{◌≡◌, ◌⊎◌, inl, inr, ⊎_elim, ℕ, ◌+◌, ◌^◌, ◌≤◌, ◌<◌, List, length, get_or, Option, Some, None, Result, Ok, Err, refl, sym, ◌∙◌, ap, subst, arith}
 use Rattle.std.specs.Prelude.{IfOk, IfErr}
-use Rattle.std.specs.FinMap.{FinMap, get, keys}
-use Rattle.std.specs.List.{Contains}
+use Rattle.std.specs.FinMap.{get, keys}
+use Rattle.std.specs.List.{All, Contains}
 use Rattle.pg_disk.specs.declared.fault.Fault.{Fault}
 use Rattle.pg_disk.specs.declared.fault.Fault.TheVariants.{Failed, Damaged, Spent, Memory}
 use Rattle.pg_disk.specs.declared.file_id.FileId.{FileId}
-use Rattle.pg_disk.specs.declared.file_id.Kind.TheVariants.{Journal as OfJournal}
-use Rattle.pg_disk.specs.Files.{file_cmp, Files}
+use Rattle.pg_disk.specs.Files.{Files}
 use Rattle.pg_disk.specs.Account.{FileState, Account, account, IsHonest}
 use Rattle.pg_disk.specs.Calls.{Changes}
 use Rattle.pg_disk.specs.Image.{IsFileThere}
 use Rattle.pg_gate.specs.Gated.{opened}
+use Rattle.pg_gate.specs.Spans.{IsMendable, StaysOrMends}
 use Rattle.pg_gate.proofs.Unique.{stands_length}
 use Rattle.pg_fold.specs.declared.durable.Durable.{Durable}
+use Rattle.pg_fold.specs.Sound.{IsSound}
 use Rattle.pg_journal.specs.declared.journal.Journal.{Journal}
-use Rattle.pg_journal.specs.Generations.{as_read, as_left, bytes_of}
+use Rattle.pg_journal.specs.Generations.{as_read, as_left, bytes_of, first_generation}
 use Rattle.pg_journal.specs.Looks.{ReadsGenerations}
 use Rattle.pg_journal.specs.Stands.{StaysOrSettles, counted, name_of}
+use Rattle.pg_journal.proofs.Law.{journal_unique}
 use Rattle.pg_journal.proofs.Scanned.{stays_away, stays_there}
 use Rattle.pg_recover.specs.declared.opening.Parts.{Parts}
 use Rattle.pg_recover.specs.Denotation.{FoldsTo, raised}
 use Rattle.pg_recover.specs.Listing.{AreListed}
-use Rattle.pg_recover.specs.Raising.{IsReady, IsUnfit, LeavesRaised}
-use Rattle.pg_recover.specs.Recovered.{AllQuiet, AreIllFormed, HasNoEpoch, IsIllFormed, IsSpentAt, LeavesOpened, OpensFiles, Owns}
-use Rattle.pg_recover.specs.Removing.{IsOther, ListsOthers}
+use Rattle.pg_recover.specs.Raising.{IsFailedOrMemory, IsReady, IsUnfit, LeavesRaised}
+use Rattle.pg_recover.specs.Recovered.{AllQuiet, AreIllFormed, AreKept, HasNoEpoch, IsBegun, IsIllFormed, IsSpentAt, KeepsFiles, LeavesOpened, OpensFiles, Owns}
+use Rattle.pg_recover.specs.Removing.{IsOther}
 use Rattle.pg_recover.specs.Said.{IsReadFrom, LeavesSaid}
-use Rattle.pg_recover.specs.WellFormed.{AreRoomy, WellFormed}
+use Rattle.pg_recover.specs.WellFormed.{AreRoomy, IsGapless, IsNamed, IsThere}
 use Rattle.pg_recover.proofs.OneState.{folds_to, state_is}
-use Rattle.pg_recover.proofs.OrderLemmas.{all_there, ascend_apart, listed_there, listing_ascends, listing_shows, there_listed}
+use Rattle.pg_recover.proofs.OrderLemmas.{all_there, ascend_apart, listing_ascends, listing_shows, shown_gapless, shown_named, there_listed}
 
 -- while the journal is read
-pub said_leaves : (old : Option Account) (c : Files) (b : List ℕ) → LeavesSaid old c b → LeavesOpened old c b
+pub said_leaves : (old : Option Account) (c : Files) (b : List ℕ) → LeavesSaid old c b → LeavesOpened (Unit {0}) old c b
 said_leaves old c b left = record {
   honest = left.honest;
   nothing = left.nothing;
-  denotes = λ d folds. inl (record { batches = folds.batches; entries = folds.entries; says = left.says folds.batches folds.says; spelled = folds.spelled; folded = folds.folded });
+  denotes = λ _ d folds. inl (record { batches = folds.batches; entries = folds.entries; says = left.says folds.batches folds.says; spelled = folds.spelled; folded = folds.folded });
 }
 
-pub reads_open : (old mid : Option Account) → Changes old mid ReadsGenerations → Changes old mid OpensFiles
-reads_open old mid stays = record {
+-- reading writes nothing but a mend
+keeps_bytes : (s t : Option FileState) → StaysOrMends s t → (bytes : List ℕ) → bytes_of s ≡ Some bytes → (IsMendable bytes → ⊥) → bytes_of t ≡ Some bytes
+keeps_bytes None t stays bytes is solid = cc
+keeps_bytes (Some s) t stays bytes is solid =
+    let same = same_bytes s.bytes bytes is in
+    let u = stays (λ mends. solid (subst IsMendable same mends)) in
+    ap bytes_of u.1 ∙ ap Some (u.2 ∙ same)
+  where
+    same_bytes : (a b : List ℕ) → ◌≡◌ {A = Option (List ℕ)} (Some a) (Some b) → a ≡ b
+    same_bytes a b is = cc
+
+makes_first : (s t : Option FileState) (first : Type 0) → bytes_of s ≡ None → (s ≡ None → (t ≡ None) ⊎ first) → (bytes_of t ≡ None) ⊎ first
+makes_first None t first none made = ⊎_elim (λ is. inl (ap bytes_of is)) (λ is. inr is) (made refl)
+makes_first (Some s) t first none made = cc
+
+pub reads_keep : (old mid : Option Account) → Changes old mid ReadsGenerations → Changes old mid KeepsFiles
+reads_keep old mid stays = record {
   kept = stays.kept;
   back = stays.back;
-  step = λ h. let a = stays.step h in record { told = a.told; taken = omega (arith, a.taken); others = λ file kind. ap bytes_of (a.others file kind) };
+  step = λ h.
+      let a = stays.step h in
+      record {
+        told = a.told;
+        others = λ file kind. ap bytes_of (a.others file kind);
+        generations = λ file kind. keeps_bytes (get (account old).files file) (get (account mid).files file) (a.generations file kind);
+        made = λ file kind none. makes_first (get (account old).files file) (get (account mid).files file) (file ≡ first_generation) none (a.made file kind);
+      };
 }
+
+pub kept_at : (old new : Option Account) → Changes old new KeepsFiles → (e : Fault) → AreKept old new e
+kept_at old new keeps Failed = tt
+kept_at old new keeps (Damaged damage) = keeps
+kept_at old new keeps Spent = keeps
+kept_at old new keeps Memory = tt
+
+-- there was no damage, and no limit was met
+pub kept_otherwise : (old new : Option Account) (result : Result Parts Fault) → IfErr result IsFailedOrMemory → IfErr result (AreKept old new)
+kept_otherwise old new (Ok parts) only = tt
+kept_otherwise old new (Err e) only = ⊎_elim (λ is. subst (AreKept old new) (sym is) tt) (λ is. subst (AreKept old new) (sym is) tt) only
 
 pub opens_then : (old mid new : Option Account) → Changes old mid OpensFiles → Changes mid new OpensFiles → Changes old new OpensFiles
 opens_then old mid new first second = record {
@@ -57,14 +92,14 @@ opens_then old mid new first second = record {
 
 -- the journal was read
 module _ (old mid : Option Account) (stays : Changes old mid ReadsGenerations) (journal : Journal) (d : Durable) (read : IsHonest old → IsReadFrom journal d (account old).files (account mid).files) where
-  pub raised_leaves : (c : Files) (b : List ℕ) → LeavesRaised journal d mid c b → LeavesOpened old c b
+  pub raised_leaves : (c : Files) (b : List ℕ) → LeavesRaised journal d mid c b → LeavesOpened (Unit {0}) old c b
   raised_leaves c b left =
       let honest = stays.back left.honest in
       let is = read honest in
       record {
         honest = honest;
         nothing = left.nothing ∙ (stays.step honest).told;
-        denotes = λ e folds. let same = state_is (as_read (account old).files) is.batches d e is.says is.folds folds in
+        denotes = λ _ e folds. let same = state_is (as_read (account old).files) is.batches d e is.says is.folds folds in
             subst (λ s. FoldsTo (as_left c) s ⊎ FoldsTo (as_left c) (raised s)) (sym same) (left.denotes is.batches is.stands is.folds);
       }
 
@@ -119,11 +154,39 @@ module _ (old mid : Option Account) (stays : Changes old mid ReadsGenerations) (
           spent = ⊎_elim (λ past. inl past) (λ full. inr (omega (arith, full, stands_length journal.rest is.batches (get (account mid).files (name_of journal)) is.stands.stands))) none;
         }
 
+    -- and where there is one, it isn't so that there is none
+    pub has_epoch : (epochs : ℕ) → d.epoch + 1 < epochs → counted journal + 14 ≤ 2 ^ 62 → IsHonest old → HasNoEpoch epochs (account old).files → ⊥
+    has_epoch epochs next room honest none =
+        let is = read honest in
+        let same : none.state ≡ d = state_is (as_read (account old).files) is.batches d none.state is.says is.folds none.folds in
+        let batches : none.folds.batches ≡ is.batches = journal_unique (as_read (account old).files) none.folds.batches is.batches none.folds.says is.says in
+        ⊎_elim (λ past. let epoch : none.state.epoch ≡ d.epoch = ap (λ (s : Durable). s.epoch) same in omega (arith, past, next, epoch))
+        (λ full.
+        let size : length (opened none.folds.batches) ≡ length (opened is.batches) = ap (λ bs. length (opened bs)) batches in
+        omega (arith, full, room, size, stands_length journal.rest is.batches (get (account mid).files (name_of journal)) is.stands.stands))
+        none.spent
+
     pub check_spent : (epochs : ℕ) (e : Fault) → IsUnfit ids journal d epochs e → IsSpentAt epochs old e
     check_spent epochs Failed unfit = tt
     check_spent epochs (Damaged damage) unfit = tt
     check_spent epochs Spent unfit = no_epoch epochs unfit
     check_spent epochs Memory unfit = tt
+
+  -- the state that is begun behind a sound one
+  pub all_begun : IsSound d → (result : Result Parts Fault) → IfOk result (λ parts. parts.durable ≡ raised d) → IfOk result (λ parts. IsBegun parts.durable)
+  all_begun sound (Ok parts) is = record { before = d; sound = sound; is = is }
+  all_begun sound (Err e) is = tt
+
+  -- what was seen of the files stands beside the state that is begun
+  module _ (ids : List FileId) (listed : IsHonest old → ids ≡ keys (account old).files) (are : AreListed d.addresses None ids) where
+    pub all_named : (result : Result Parts Fault) → IfOk result (λ parts. parts.durable ≡ raised d)
+        → IfOk result (λ parts. IsHonest old → (file : FileId) → IsThere (as_read (account old).files) file → IsNamed parts.durable.addresses file)
+    all_named (Ok parts) is = λ honest file there. subst (λ (s : Durable). IsNamed s.addresses file) (sym is) (shown_named (account old).files ids (listed honest) d.addresses are file there)
+    all_named (Err e) is = tt
+
+    pub all_gapless : (result : Result Parts Fault) → IfOk result (λ parts. parts.durable ≡ raised d) → IfOk result (λ parts. IsHonest old → All (IsGapless (as_read (account old).files)) parts.durable.addresses)
+    all_gapless (Ok parts) is = λ honest. subst (λ (s : Durable). All (IsGapless (as_read (account old).files)) s.addresses) (sym is) (shown_gapless (account old).files ids (listed honest) d.addresses are)
+    all_gapless (Err e) is = tt
 
   -- what an opening comes to
   pub all_recovered : (new : Option Account) (result : Result Parts Fault) → IfOk result (λ parts. parts.durable ≡ raised d)

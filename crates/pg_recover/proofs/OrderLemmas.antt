@@ -1,5 +1,5 @@
 -- The listing ascends, so a page stands right behind the page before it.
-use Rattle.std.proofs.Common.{◌≡◌, ◌≢◌, ◌⊎◌, inl, inr, ⊎_elim, ℕ, ◌+◌, ◌-◌, ◌≤◌, ◌<◌, Bool, true, false, ◌&&◌, T, List, [], ◌∷◌, length, map, get_or, Option, Some, None, refl, sym, ◌∙◌, ap, subst, arith, is_lt, nat_cmp}
+use Rattle.std.proofs.Common.{◌≡◌, ◌≢◌, ◌⊎◌, inl, inr, ⊎_elim, ℕ, zero, suc, ◌+◌, ◌-◌, ◌<◌, ◌≤◌, Bool, true, false, ◌&&◌, T, List, [], ◌∷◌, map, length, get_or, Option, Some, None, refl, sym, ◌∙◌, ap, subst, arith, is_lt, nat_cmp}
 use Rattle.std.specs.Prelude.{is_some, ◌||◌}
 use Rattle.std.specs.FinMap.{FinMap, get, keys, entries, entries_sorted, contains_key-keys}
 use Rattle.std.specs.FinMap.Entries.{below_all, is_sorted}
@@ -21,7 +21,7 @@ use Rattle.pg_disk.proofs.FileOrder.{files_exact, files_total, tied_self}
 use Rattle.pg_fold.specs.declared.rows.AddressRow.{AddressRow}
 use Rattle.pg_journal.specs.Generations.{Contents, as_read, bytes_of}
 use Rattle.pg_journal.specs.Stands.{IsQuietAt}
-use Rattle.pg_recover.specs.Listing.{AreListed, IsListed, IsNextAs}
+use Rattle.pg_recover.specs.Listing.{AreListed, IsNextAs}
 use Rattle.pg_recover.specs.WellFormed.{IsGapless, IsNamed, IsThere, page_file}
 
 -- one file comes before another in a listing
@@ -195,6 +195,44 @@ module _ (files : FinMap file_cmp FileState) (ids : List FileId) (is : ids ≡ k
   -- the listing of well formed files
   pub listing_shows : (addresses : List AddressRow) → ((file : FileId) → IsThere (as_read files) file → IsNamed addresses file) → All (IsGapless (as_read files)) addresses → AreListed addresses None ids
   listing_shows addresses named gapless = all_listed addresses (as_read files) named gapless None ids tt (listing_ascends files ids is) among_there (λ q there. inl (there_among q there))
+
+-- what a listing shows of each file
+listed_named : (addresses : List AddressRow) (before : Option FileId) (fs : List FileId) (q : FileId) → AreListed addresses before fs → IsAmong fs q → IsNamed addresses q
+listed_named addresses before [] q are among = absurd among
+listed_named addresses before (f ∷ fs) q are (inl same) = subst (IsNamed addresses) (sym same) are.0.named
+listed_named addresses before (f ∷ fs) q are (inr more) = listed_named addresses (Some f) fs q are.1 more
+
+-- The page before a page behind the first stands among them too, or right before them.
+page_before : (addresses : List AddressRow) (before : Option FileId) (fs : List FileId) (owner number : ℕ) → AreListed addresses before fs → IsAmong fs (page_file owner number) → (k : ℕ) (d : AddressRow) → k < length addresses
+    → (get_or addresses k d).id ≡ owner → (get_or addresses k d).first < number → IsAmong fs (page_file owner (number - 1)) ⊎ (before ≡ Some (page_file owner (number - 1)))
+page_before addresses before [] owner number are among k d lt id behind = absurd among
+page_before addresses before (f ∷ fs) owner number are (inl same) k d lt id behind = inr (subst (λ (x : FileId). IsNextAs addresses before x.kind x.owner x.number) (sym same) are.0.next k d lt id behind)
+page_before addresses before (f ∷ fs) owner number are (inr more) k d lt id behind =
+    ⊎_elim (λ among. inl (inr among)) (λ is. inl (inl (sym (one_file f (page_file owner (number - 1)) is)))) (page_before addresses (Some f) fs owner number are.1 more k d lt id behind)
+  where
+    one_file : (a b : FileId) → ◌≡◌ {A = Option FileId} (Some a) (Some b) → a ≡ b
+    one_file a b is = cc
+
+-- so the pages from the first on stand there up to one that does
+pages_below : (addresses : List AddressRow) (fs : List FileId) (owner number gap other : ℕ) → AreListed addresses None fs → IsAmong fs (page_file owner number) → (k : ℕ) (d : AddressRow) → k < length addresses
+    → (get_or addresses k d).id ≡ owner → (get_or addresses k d).first ≤ other → number ≡ other + gap → IsAmong fs (page_file owner other)
+pages_below addresses fs owner number zero other are among k d lt id low is = subst (λ n. IsAmong fs (page_file owner n)) (omega (arith, is)) among
+pages_below addresses fs owner number (suc gap) other are among k d lt id low is =
+    ⊎_elim (λ more. pages_below addresses fs owner (number - 1) gap other are more k d lt id low (omega (arith, is))) (λ none. absurd (nothing (page_file owner (number - 1)) none))
+    (page_before addresses None fs owner number are among k d lt id (omega (arith, low, is)))
+  where
+    nothing : (a : FileId) → ◌≡◌ {A = Option FileId} None (Some a) → ⊥
+    nothing a is = cc
+
+module _ (files : FinMap file_cmp FileState) (ids : List FileId) (is : ids ≡ keys files) (addresses : List AddressRow) (are : AreListed addresses None ids) where
+  pub shown_named : (file : FileId) → IsThere (as_read files) file → IsNamed addresses file
+  shown_named file there = listed_named addresses None ids file are (there_among files ids is file there)
+
+  pub shown_gapless : All (IsGapless (as_read files)) addresses
+  shown_gapless k d lt number there other low high =
+      let row = get_or addresses k d in
+      among_there files ids is (page_file row.id other)
+      (pages_below addresses ids row.id number (number - other) other are (there_among files ids is (page_file row.id number) there) k d lt refl low (omega (arith, high)))
 
 -- Ascending listings of the same files are one.
 same_listing : (xs ys : List FileId) → Ascend xs → Ascend ys → ((q : FileId) → IsAmong xs q → IsAmong ys q) → ((q : FileId) → IsAmong ys q → IsAmong xs q) → xs ≡ ys

@@ -11,8 +11,6 @@ use Rattle.pg_disk.specs.Files.{file_cmp, Files}
 use Rattle.pg_disk.specs.Account.{FileState, Account, account, IsHonest}
 use Rattle.pg_disk.specs.Calls.{Changes, ChangesFile, Removed}
 use Rattle.pg_disk.specs.Image.{IsFileThere, IsLeftAt, Leaves, LeavesAt, MayBeRemoved}
-use Rattle.pg_disk.specs.Moments.{Elapses, Within}
-use Rattle.pg_disk.proofs.Runs.{goes_on, started}
 use Rattle.pg_journal.proofs.Order.{same_or_not}
 use Rattle.pg_recover.specs.Removing.{HasNoOther, IsOther, LeavesOthersGone, ListsOthers, RemovesOther, RemovesOthers}
 

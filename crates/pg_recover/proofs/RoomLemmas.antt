@@ -1,17 +1,19 @@
 -- How much the messages of each address weigh.
-use Rattle.std.proofs.Common.{◌≡◌, ℕ, ◌+◌, ◌-◌, ◌^◌, ◌≤◌, ◌<◌, min, Bool, true, false, cond, List, [], ◌∷◌, ◌++◌, length, map, take, get_or, refl, sym, ◌∙◌, ap, subst, arith}
+use Rattle.std.proofs.Common.{◌≡◌, ℕ, ◌+◌, ◌≤◌, ◌<◌, min, Bool, true, false, cond, List, [], ◌∷◌, ◌++◌, length, map, take, get_or, refl, sym, ◌∙◌, ap, subst, arith}
 use Rattle.std.specs.Prelude.{filter, sum_by, ◌==◌, ◌↔◌}
 use Rattle.std.specs.List.{All}
+use Rattle.std.proofs.lemmas.Bool.{and_parts, leb-true}
 use Rattle.std.proofs.lemmas.List.{map-append, take_more, take_all}
-use Rattle.std.proofs.lemmas.List.Elements.{filter-append}
+use Rattle.std.proofs.lemmas.List.Elements.{filter-append, All-weaker}
 use Rattle.std.proofs.lemmas.List.Sums.{sum_by-append}
 use Rattle.pg_msg.specs.Messages.{weight_of}
 use Rattle.pg_fold.specs.declared.durable.Durable.{Durable}
 use Rattle.pg_fold.specs.declared.rows.AddressRow.{AddressRow}
 use Rattle.pg_fold.specs.declared.rows.JournaledRow.{JournaledRow}
+use Rattle.pg_fold.specs.Fold.{are_settings}
 use Rattle.pg_fold.specs.Rows.{AreNumbered}
+use Rattle.pg_fold.specs.Sound.{IsSound}
 use Rattle.pg_recover.specs.Denotation.{weight_at}
-use Rattle.pg_recover.specs.Folding.{IsFit}
 use Rattle.pg_recover.specs.WellFormed.{AreRoomy}
 
 -- what one more message adds
@@ -78,15 +80,21 @@ AreLight rows sums = (k : ℕ) (d : AddressRow) → k < length rows → get_or s
 abbrev pub AreSums : List JournaledRow → List ℕ → Type 0
 AreSums journaled sums = (k : ℕ) → k < length sums → get_or sums k 0 ≡ min (weight_at (k + 1) journaled) most
 
-light_tells : (d : Durable) (sums : List ℕ) → IsFit d → length sums ≡ length d.addresses → AreSums d.journaled sums → AreLight d.addresses sums ↔ AreRoomy d
-light_tells d sums fit count each = (
-  λ light k row lt. (light_or_not d.addresses d.journaled sums fit.numbered fit.limited count each k row lt).0 (light k row lt),
-  λ roomy k row lt. (light_or_not d.addresses d.journaled sums fit.numbered fit.limited count each k row lt).1 (roomy k row lt),
+-- the limits of the addresses are in their range
+are_limited : (d : Durable) → IsSound d → All (λ (row : AddressRow). row.max ≤ 1000000000000) d.addresses
+are_limited d sound =
+    All-weaker (λ (row : AddressRow). are_settings row.max row.page row.ahead row.dup ≡ true) (λ row. row.max ≤ 1000000000000) (λ row are. leb-true row.max 1000000000000 (and_parts _ _ are).0) d.addresses
+    sound.addresses.settings
+
+light_tells : (d : Durable) (sums : List ℕ) → IsSound d → length sums ≡ length d.addresses → AreSums d.journaled sums → AreLight d.addresses sums ↔ AreRoomy d
+light_tells d sums sound count each = (
+  λ light k row lt. (light_or_not d.addresses d.journaled sums sound.addresses.numbered (are_limited d sound) count each k row lt).0 (light k row lt),
+  λ roomy k row lt. (light_or_not d.addresses d.journaled sums sound.addresses.numbered (are_limited d sound) count each k row lt).1 (roomy k row lt),
 )
 
-pub room_tells : (d : Durable) (rows : List AddressRow) (journaled : List JournaledRow) (sums here : List ℕ) (told : Type 0) → IsFit d → rows ≡ d.addresses → journaled ≡ d.journaled → here ≡ sums
+pub room_tells : (d : Durable) (rows : List AddressRow) (journaled : List JournaledRow) (sums here : List ℕ) (told : Type 0) → IsSound d → rows ≡ d.addresses → journaled ≡ d.journaled → here ≡ sums
     → length sums ≡ length rows → AreSums journaled sums → (told ↔ AreLight rows here) → told ↔ AreRoomy d
-room_tells d rows journaled sums here told fit addresses messages is count each tells =
-    let light = light_tells d sums fit (count ∙ ap length addresses) (subst (λ l. AreSums l sums) messages each) in
+room_tells d rows journaled sums here told sound addresses messages is count each tells =
+    let light = light_tells d sums sound (count ∙ ap length addresses) (subst (λ l. AreSums l sums) messages each) in
     let same = subst (λ l. told ↔ AreLight d.addresses l) is (subst (λ l. told ↔ AreLight l here) addresses tells) in
     (λ yes. light.0 (same.0 yes), λ roomy. same.1 (light.1 roomy))

@@ -1,14 +1,12 @@
 -- Files are synced one after the other.
-use Rattle.std.proofs.Common.{◌≡◌, ◌≢◌, ◌⊎◌, inl, inr, ⊎_elim, ℕ, ◌+◌, ◌<◌, Bool, true, false, List, [], length, get_or, Option, Some, None, refl, sym, ◌∙◌, ap, subst, arith}
+use Rattle.std.proofs.Common.{◌≡◌, ◌⊎◌, inl, inr, ⊎_elim, ℕ, ◌+◌, ◌<◌, Bool, true, false, List, [], length, get_or, Option, Some, None, refl, sym, ◌∙◌, ap, subst, arith}
 use Rattle.std.proofs.lemmas.List.{get_or_default}
 use Rattle.std.specs.FinMap.{get}
 use Rattle.pg_disk.specs.declared.file_id.FileId.{FileId}
 use Rattle.pg_disk.specs.Files.{Files}
 use Rattle.pg_disk.specs.Account.{FileState, Account, account, IsHonest, IsQuiet, IsSound}
 use Rattle.pg_disk.specs.Calls.{Changes, ChangesFile, There, Synced}
-use Rattle.pg_disk.specs.Image.{IsFileThere, IsIn, IsLeft, IsLeftAt, Leaves}
-use Rattle.pg_disk.specs.Moments.{Elapses, Within}
-use Rattle.pg_disk.proofs.Runs.{goes_on}
+use Rattle.pg_disk.specs.Image.{IsFileThere, IsIn, IsLeftAt, Leaves}
 use Rattle.pg_journal.specs.Stands.{IsQuietAt}
 use Rattle.pg_journal.proofs.Order.{same_or_not}
 use Rattle.pg_recover.specs.Syncing.{Narrows, NarrowsAt, SyncsFiles}

@@ -1,5 +1,5 @@
 -- What the files of a directory denote: the durable part of a broker.
-use Rattle.std.specs.Prelude.{◌≡◌, ◌+◌, ◌-◌, ℕ, List, map, filter, sum_by, Option, Some, ◌==◌}
+use Rattle.std.specs.Prelude.{◌≡◌, ◌+◌, ◌-◌, ℕ, List, map, filter, sum_by, Some, ◌==◌}
 use Rattle.pg_msg.specs.declared.message.Message.{Message}
 use Rattle.pg_msg.specs.Messages.{weight_of}
 use Rattle.pg_records.specs.declared.entry.Entry.{Entry}

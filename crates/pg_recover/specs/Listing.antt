@@ -1,5 +1,5 @@
 -- What a listing shows of the rules on names, numbers and gaps.
-use Rattle.std.specs.Prelude.{◌≡◌, ◌<◌, ◌-◌, ℕ, List, [], ◌∷◌, All, Option, Some, None}
+use Rattle.std.specs.Prelude.{◌≡◌, ◌<◌, ◌-◌, ℕ, List, [], ◌∷◌, All, Option, Some}
 use Rattle.pg_disk.specs.declared.file_id.FileId.{FileId}
 use Rattle.pg_disk.specs.declared.file_id.Kind.{Kind}
 use Rattle.pg_disk.specs.declared.file_id.Kind.TheVariants.{Journal, Page, Large}

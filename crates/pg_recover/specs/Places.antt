@@ -1,5 +1,5 @@
 -- Payloads at places of the journal's file, and the pieces that cover them.
-use Rattle.std.specs.Prelude.{◌≤◌, ◌+◌, ◌-◌, ℕ, List, map, take, drop, length, All}
+use Rattle.std.specs.Prelude.{◌≤◌, ◌+◌, ◌-◌, ℕ, List, map, take, drop, All}
 use Rattle.pg_gate.specs.declared.spans.Span.{Span}
 
 -- the bytes at a place

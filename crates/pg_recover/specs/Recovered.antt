@@ -7,14 +7,16 @@ use Rattle.pg_disk.specs.declared.file_id.FileId.{FileId}
 use Rattle.pg_disk.specs.declared.file_id.Kind.TheVariants.{Journal as OfJournal}
 use Rattle.pg_disk.specs.Account.{FileState, Account, account, IsHonest}
 use Rattle.pg_disk.specs.Files.{file_cmp, Files}
+use Rattle.pg_disk.specs.Calls.{Changes}
 use Rattle.pg_gate.specs.Gated.{opened}
+use Rattle.pg_gate.specs.Spans.{IsMendable}
 use Rattle.pg_records.specs.declared.entry.Entry.{Entry}
 use Rattle.pg_records.specs.Entries.{SpellBatches}
 use Rattle.pg_fold.specs.declared.durable.Durable.{Durable}
 use Rattle.pg_fold.specs.Fold.{fold, fresh}
 use Rattle.pg_fold.specs.Sound.{IsSound}
 use Rattle.pg_journal.specs.declared.journal.Journal.{Journal}
-use Rattle.pg_journal.specs.Generations.{as_read, as_left, bytes_of}
+use Rattle.pg_journal.specs.Generations.{as_read, as_left, bytes_of, first_generation}
 use Rattle.pg_journal.specs.Stands.{IsQuietAt, Stands, name_of}
 use Rattle.pg_recover.specs.Denotation.{FoldsTo, raised}
 use Rattle.pg_recover.specs.WellFormed.{WellFormed}
@@ -53,6 +55,21 @@ pub record OpensFiles (old new : Account) : Type 0 where
   pub told : new.told ≡ old.told
   pub taken : old.taken ≤ new.taken
   pub others : (file : FileId) → file.kind ≢ OfJournal → bytes_of (get new.files file) ≡ bytes_of (get old.files file)
+
+-- Nothing was written but a mend: each file has the bytes that it had, but for a generation of the journal that was empty or had the one byte 1. The
+-- first generation may have been laid where it wasn't there.
+pub record KeepsFiles (old new : Account) : Type 0 where
+  pub told : new.told ≡ old.told
+  pub others : (file : FileId) → file.kind ≢ OfJournal → bytes_of (get new.files file) ≡ bytes_of (get old.files file)
+  pub generations : (file : FileId) → file.kind ≡ OfJournal → (bytes : List ℕ) → bytes_of (get old.files file) ≡ Some bytes → (IsMendable bytes → ⊥) → bytes_of (get new.files file) ≡ Some bytes
+  pub made : (file : FileId) → file.kind ≡ OfJournal → bytes_of (get old.files file) ≡ None → (bytes_of (get new.files file) ≡ None) ⊎ (file ≡ first_generation)
+
+-- so it is where there was damage or a limit was met
+abbrev pub AreKept : Option Account → Option Account → Fault → Type 0
+AreKept old new Failed = Unit {0}
+AreKept old new (Damaged damage) = Changes old new KeepsFiles
+AreKept old new Spent = Changes old new KeepsFiles
+AreKept old new Memory = Unit {0}
 
 -- the files weren't well formed
 abbrev pub AreIllFormed : Option Account → Type 0

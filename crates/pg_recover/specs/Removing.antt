@@ -1,5 +1,5 @@
 -- What the removal of the other generations does, and what a crash within it leaves.
-use Rattle.std.specs.Prelude.{◌≡◌, ◌≢◌, ◌⊎◌, List, ℕ, All, Option, Some, None}
+use Rattle.std.specs.Prelude.{◌≡◌, ◌≢◌, ◌⊎◌, List, ℕ, All, Option, None}
 use Rattle.std.specs.List.{AllPairs, Contains}
 use Rattle.std.specs.FinMap.{FinMap, get}
 use Rattle.pg_disk.specs.declared.file_id.FileId.{FileId}

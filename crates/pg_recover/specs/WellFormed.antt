@@ -1,5 +1,5 @@
 -- Which directories are well formed, as far as it is built: filters, frames, large messages and transactions aren't.
-use Rattle.std.specs.Prelude.{◌≡◌, ◌≢◌, ◌<◌, ◌≤◌, ◌+◌, ◌^◌, ℕ, List, All, Option, Some, true}
+use Rattle.std.specs.Prelude.{◌≡◌, ◌≢◌, ◌<◌, ◌≤◌, ◌+◌, ◌^◌, ℕ, List, All, Some, true}
 use Rattle.pg_disk.specs.declared.file_id.FileId.{FileId}
 use Rattle.pg_disk.specs.declared.file_id.Kind.{Kind}
 use Rattle.pg_disk.specs.declared.file_id.Kind.TheVariants.{Journal, Page, Large}

@@ -1,5 +1,5 @@
 // Opening over the files of a directory.
-ghost use Rattle.std.specs.Prelude.{◌≡◌, IfOk, IfErr, OnOk};
+ghost use Rattle.std.specs.Prelude.{◌≡◌, All, IfOk, IfErr, OnOk};
 ghost use Rattle.std.specs.FinMap.{keys};
 ghost use Rattle.pg_disk.specs.Account.{account, IsHonest};
 ghost use Rattle.pg_disk.specs.Calls.{Changes};
@@ -7,8 +7,8 @@ ghost use Rattle.pg_disk.specs.Counts.{CountsFault};
 ghost use Rattle.pg_disk.specs.Moments.{Within, WithinFrom};
 ghost use Rattle.pg_journal.specs.Generations.{as_read};
 ghost use Rattle.pg_recover.specs.Denotation.{FoldsTo, raised};
-ghost use Rattle.pg_recover.specs.Recovered.{AllQuiet, BeganQuiet, IsBegun, HasNoEpoch, IsEpoch, IsIllFormed, IsSpentAt, LeavesOpened, OpensFiles, Owns};
-ghost use Rattle.pg_recover.specs.WellFormed.{AreRoomy};
+ghost use Rattle.pg_recover.specs.Recovered.{AllQuiet, AreKept, BeganQuiet, IsBegun, HasNoEpoch, IsEpoch, IsIllFormed, IsSpentAt, LeavesOpened, OpensFiles, Owns};
+ghost use Rattle.pg_recover.specs.WellFormed.{AreRoomy, IsGapless, IsNamed, IsThere};
 
 use crate::epochs::{begin_epoch, check_state};
 use crate::reading::read_journal;
@@ -40,7 +40,11 @@ fn open_synced<D: Disk>(
     ensures begun { IfOk result (λ parts. IsBegun parts.durable) }
     ensures roomy { IfOk result (λ parts. AreRoomy parts.durable) }
     ensures epoch { IfOk result (λ parts. IsEpoch limits.now.epochs parts.durable.epoch) }
+    ensures named { IfOk result (λ parts. IsHonest (D.tells disk.old) → (file : _) → IsThere (as_read (account (D.tells disk.old)).files) file →
+        IsNamed parts.durable.addresses file) }
+    ensures gapless { IfOk result (λ parts. IsHonest (D.tells disk.old) → All (IsGapless (as_read (account (D.tells disk.old)).files)) parts.durable.addresses) }
     ensures stays { Changes (D.tells disk.old) (D.tells disk.new) OpensFiles }
+    ensures kept { IfErr result (AreKept (D.tells disk.old) (D.tells disk.new)) }
     ensures any_moment { Within D.moment D.left_since disk.old disk.new (LeavesOpened (Unit {0}) (D.tells disk.old)) }
     ensures damaged { IfErr result (IsIllFormed (D.tells disk.old)) }
     ensures spent { IfErr result (IsSpentAt limits.now.epochs (D.tells disk.old)) }
@@ -69,7 +73,11 @@ pub fn recover<D: Disk>(alloc: Global, disk: &mut D, limits: &Limits) -> Result<
     ensures begun { IfOk result (λ parts. IsBegun parts.durable) }
     ensures roomy { IfOk result (λ parts. AreRoomy parts.durable) }
     ensures epoch { IfOk result (λ parts. IsEpoch limits.now.epochs parts.durable.epoch) }
+    ensures named { IfOk result (λ parts. IsHonest (D.tells disk.old) → (file : _) → IsThere (as_read (account (D.tells disk.old)).files) file →
+        IsNamed parts.durable.addresses file) }
+    ensures gapless { IfOk result (λ parts. IsHonest (D.tells disk.old) → All (IsGapless (as_read (account (D.tells disk.old)).files)) parts.durable.addresses) }
     ensures stays { Changes (D.tells disk.old) (D.tells disk.new) OpensFiles }
+    ensures kept { IfErr result (AreKept (D.tells disk.old) (D.tells disk.new)) }
     // A crash at any moment leaves the state from before, or that in the next epoch, where nothing was pending.
     ensures any_moment { Within D.moment D.left_since disk.old disk.new (LeavesOpened (BeganQuiet (D.tells disk.old)) (D.tells disk.old)) }
     // Where something was, that is so from some moment on.

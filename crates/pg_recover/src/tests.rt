@@ -1,7 +1,11 @@
+ghost use Rattle.std.specs.Prelude.{◌<◌, ◌^◌, IfOk};
+ghost use Rattle.pg_msg.specs.Messages.{HasFields};
+
 use super::*;
 use pg_bytes::{Octets, Text, put_bytes, put_u8, put_u32, put_u64};
 use pg_disk::{Damage, Disk, Fault, FileId, Kind, MemSite, Rule};
-use pg_msg::Limits;
+use pg_fold::JournaledRow;
+use pg_msg::{Body, Limits, Message, MessageId, Properties, QueueIds};
 use pg_records::{Entry, encode_batch};
 use std::alloc::{AllocError, Global};
 use std::test::Fail;
@@ -322,5 +326,35 @@ fn tests_pages(rt: HostRuntime) -> Result<(), Fail> {
         let batches = vec![in alloc; made(alloc, 0)?]?;
         assert_eq!(rt; opened(alloc, &batches, pages)?, want, "{pages:?}");
     }
+    Ok(())
+}
+
+// A message of so many bytes, for one queue of the address.
+fn row(alloc: Global, address: u32, size: usize) -> Result<JournaledRow, AllocError>
+    requires { size < 2 ^ 32 }
+    ensures { IfOk result (λ row. HasFields row.message) }
+{
+    Ok(JournaledRow {
+        address,
+        message: Message {
+            id: MessageId {
+                epoch: 1,
+                number: 1,
+            },
+            dup: None,
+            properties: Properties::new(alloc),
+            body: Body::Plain(Octets::from_vec(vec![in alloc; 7; size]?)),
+        },
+        holders: QueueIds::from_vec(vec![in alloc; 1]?),
+    })
+}
+
+#[test]
+fn weighs_by_address(rt: HostRuntime) -> Result<(), Fail> {
+    let alloc = rt.alloc();
+    let rows = vec![in alloc; row(alloc, 2, 3)?, row(alloc, 1, 0)?, row(alloc, 2, 12)?]?;
+    // Each has 15 bytes beside its body. The third address has no messages.
+    let sums = weights_by_address(alloc, 3, &rows)?;
+    assert_eq!(rt; sums.as_slice(), [15, 45, 0].as_slice());
     Ok(())
 }

@@ -1,5 +1,4 @@
 use Rattle.std.proofs.Common.{refl, sym, subst}
-use Rattle.pg_disk.specs.declared.file_id.FileId.{FileId}
 use Rattle.pg_disk.specs.Account.{account, IsHonest}
 use Rattle.pg_disk.specs.Calls.{Changes}
 use Rattle.pg_disk.specs.Moments.{Within}

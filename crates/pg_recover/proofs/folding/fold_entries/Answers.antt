@@ -1,4 +1,4 @@
-use Rattle.std.proofs.Common.{◌≡◌, ◌∙◌, ◌+◌, ◌<◌, ℕ, List, ◌∷◌, [], ◌++◌, length, get_or, drop, Option, Some, None, refl, sym, ap, subst, arith}
+use Rattle.std.proofs.Common.{◌≡◌, ◌∙◌, ◌+◌, ◌<◌, ℕ, List, ◌∷◌, [], ◌++◌, length, get_or, drop, None, refl, sym, ap, subst}
 use Rattle.std.proofs.lemmas.Iterator.Adapters.{YieldsList-from_vec}
 use Rattle.std.proofs.lemmas.Iterator.Consumers.{YieldsList-turn, YieldsList-end}
 use Rattle.std.proofs.lemmas.Result.{err_from_is_err_and}
@@ -10,13 +10,13 @@ use Rattle.pg_fold.specs.declared.durable.Durable.{Durable}
 use Rattle.pg_fold.specs.declared.fold_error.FoldError.{FoldError}
 use Rattle.pg_fold.specs.declared.fold_error.FoldError.TheVariants.{Broken, Memory}
 use Rattle.pg_fold.specs.Fold.{fold, rule_of, IsBrokenBy}
+use Rattle.pg_fold.proofs.SoundLaws.{sound_kept}
 use Rattle.pg_recover.specs.Folding.{IsBroken}
 use Rattle.pg_recover.proofs.AlikeLemmas.{entry_applied, entry_broken, entries_done}
-use Rattle.pg_recover.proofs.FitLemmas.{fit_applied}
 use Rattle.pg_recover.proofs.folding.fold_entries.Goals as goal
 
 pub loop-entry-init : goal.loop-entry-init
-loop-entry-init c = record { fields = c.requires.fields; fit = c.requires.fit; so_far = refl }
+loop-entry-init c = record { fields = c.requires.fields; sound = c.requires.sound; so_far = refl }
 
 -- one more was yielded
 length_more : (xs : List Entry) (x : Entry) → length (xs ++ x ∷ []) ≡ length xs + 1
@@ -31,7 +31,7 @@ loop-entry-preserved c =
     let more = length_more c.loop-entry.yielded c.in-Some.entry in
     record {
       fields = subst (λ n. HaveFields (drop n c.args.entries.items)) (sym more) fields.1;
-      fit = fit_applied c.loop-entry.durable c.in_ok-durable.durable c.in-Some.entry c.loop-entry.invariant.fit fields.0 c.in_ok-durable.ensures.applied;
+      sound = sound_kept c.loop-entry.durable c.in_ok-durable.durable c.in-Some.entry c.loop-entry.invariant.sound fields.0 c.in_ok-durable.ensures.applied;
       so_far = c.loop-entry.invariant.so_far
           ∙ entry_applied c.loop-entry.durable c.in_ok-durable.durable c.args.entries.items (length c.loop-entry.yielded) c.in-Some.entry t.0 t.1 c.in_ok-durable.ensures.applied
           ∙ ap (λ n. fold c.in_ok-durable.durable (drop n c.args.entries.items)) (sym more);

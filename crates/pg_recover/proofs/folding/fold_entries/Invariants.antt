@@ -1,12 +1,12 @@
 use Rattle.std.proofs.Common.{◌≡◌, drop, length}
 use Rattle.pg_records.specs.Entries.{HaveFields}
 use Rattle.pg_fold.specs.Fold.{fold}
-use Rattle.pg_recover.specs.Folding.{IsFit}
+use Rattle.pg_fold.specs.Sound.{IsSound}
 use Rattle.pg_recover.proofs.folding.fold_entries.Given as goal
 
 abbrev pub invariant-loop-entry : goal.invariant-loop-entry
 invariant-loop-entry l = record {
   fields : HaveFields (drop (length l.yielded) l.fn.entries.items);
-  fit : IsFit l.durable;
+  sound : IsSound l.durable;
   so_far : fold l.fn.durable l.fn.entries.items ≡ fold l.durable (drop (length l.yielded) l.fn.entries.items);
 }

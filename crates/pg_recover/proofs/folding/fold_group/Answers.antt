@@ -1,4 +1,4 @@
-use Rattle.std.proofs.Common.{sym, subst}
+use Rattle.std.proofs.Common.{subst}
 use Rattle.std.proofs.lemmas.Result.{err_from_is_err_and}
 use Rattle.pg_fold.specs.declared.durable.Durable.{Durable}
 use Rattle.pg_recover.specs.Folding.{FoldsPayload}
@@ -7,11 +7,11 @@ use Rattle.pg_recover.proofs.AlikeLemmas.{alike_itself, span_step, span_nowhere,
 use Rattle.pg_recover.proofs.folding.fold_group.Goals as goal
 
 pub loop-span-init : goal.loop-span-init
-loop-span-init c = record { fit = c.requires.fit; so_far = alike_itself _ _ }
+loop-span-init c = record { sound = c.requires.sound; so_far = alike_itself _ _ }
 
 pub loop-span-preserved : goal.loop-span-preserved
 loop-span-preserved c = record {
-  fit = c.in_ok-durable.ensures.fit;
+  sound = c.in_ok-durable.ensures.sound;
   so_far = span_step (payload_from c.args.cover.at c.args.bytes.now) c.args.durable c.loop-span.durable c.args.spans.now c.loop-span.span-index _ c.loop-span-test.true c.loop-span.invariant.so_far c.in_ok-durable.durable
       (subst (λ p. FoldsPayload c.loop-span.durable p c.in_ok-durable.durable) c.payload_in-payload.ensures c.in_ok-durable.ensures.folded);
 }

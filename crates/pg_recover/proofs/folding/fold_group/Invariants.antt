@@ -1,10 +1,11 @@
 use Rattle.std.proofs.Common.{drop}
-use Rattle.pg_recover.specs.Folding.{AreAlike, IsFit}
+use Rattle.pg_fold.specs.Sound.{IsSound}
+use Rattle.pg_recover.specs.Folding.{AreAlike}
 use Rattle.pg_recover.specs.Places.{payloads_from}
 use Rattle.pg_recover.proofs.folding.fold_group.Given as goal
 
 abbrev pub invariant-loop-span : goal.invariant-loop-span
 invariant-loop-span l = record {
-  fit : IsFit l.durable;
+  sound : IsSound l.durable;
   so_far : AreAlike l.fn.durable (payloads_from l.cover.at l.bytes l.spans) l.durable (payloads_from l.cover.at l.bytes (drop l.span-index l.spans));
 }

@@ -2,7 +2,7 @@ use Rattle.pg_recover.proofs.AlikeLemmas.{payload_folds, payload_breaks}
 use Rattle.pg_recover.proofs.folding.fold_payload.Goals as goal
 
 pub fold_entries-requires : goal.fold_entries-requires
-fold_entries-requires c = let spells = rw c.in-Some.is at c.in_ok-entries.ensures.found in record { fields = spells.fields; fit = c.requires }
+fold_entries-requires c = let spells = rw c.in-Some.is at c.in_ok-entries.ensures.found in record { fields = spells.fields; sound = c.requires }
 
 pub returns-in-Some-clause-folded : goal.returns-in-Some-clause-folded
 returns-in-Some-clause-folded c =

@@ -1,6 +1,7 @@
 use Rattle.std.proofs.lemmas.Result.{err_from_is_err_and}
 use Rattle.pg_disk.proofs.Runs.{then_run, weaker}
-use Rattle.pg_recover.proofs.OpenLemmas.{all_recovered, check_ill, check_spent, opens_then, raised_leaves, reads_open, ready, said_leaves}
+use Rattle.pg_recover.proofs.OpenLemmas.{all_begun, all_gapless, all_named, all_recovered, check_ill, check_spent, has_epoch, kept_at, kept_otherwise, raised_leaves, reads_keep, ready, said_leaves}
+use Rattle.pg_recover.proofs.RecoverLemmas.{on_ok}
 use Rattle.pg_recover.proofs.opening.open_synced.Goals as goal
 
 pub begin_epoch-requires : goal.begin_epoch-requires
@@ -39,3 +40,38 @@ returns-clause-any_moment g c =
     (weaker g.D.Disk.moment g.D.Disk.left_since c.args.disk.now c.read_journal.new.disk _ _ c.read_journal.ensures.any_moment (said_leaves (g.D.Disk.tells c.args.disk.now)))
     c.begin_epoch.ensures.any_moment
     (raised_leaves (g.D.Disk.tells c.args.disk.now) (g.D.Disk.tells c.read_journal.new.disk) c.read_journal.ensures.stays c.in_ok-journal.journal c.in_ok-journal.durable c.in_ok-journal.ensures.found)
+
+pub returns-clause-begun : goal.returns-clause-begun
+returns-clause-begun g c =
+    all_begun (g.D.Disk.tells c.args.disk.now) (g.D.Disk.tells c.read_journal.new.disk) c.read_journal.ensures.stays c.in_ok-journal.journal c.in_ok-journal.durable c.in_ok-journal.ensures.found c.in_ok-journal.ensures.sound
+    c.begin_epoch.result c.begin_epoch.ensures.raised
+
+pub returns-clause-next : goal.returns-clause-next
+returns-clause-next g c =
+    on_ok c.begin_epoch.result _ (has_epoch (g.D.Disk.tells c.args.disk.now) (g.D.Disk.tells c.read_journal.new.disk) c.read_journal.ensures.stays c.in_ok-journal.journal c.in_ok-journal.durable c.in_ok-journal.ensures.found
+    c.args.files.now c.requires.listed c.args.limits.now.epochs c.in_ok-check_state.ensures.next c.in_ok-check_state.ensures.room)
+
+pub returns-clause-named : goal.returns-clause-named
+returns-clause-named g c =
+    all_named (g.D.Disk.tells c.args.disk.now) (g.D.Disk.tells c.read_journal.new.disk) c.read_journal.ensures.stays c.in_ok-journal.journal c.in_ok-journal.durable c.in_ok-journal.ensures.found
+    c.args.files.now c.requires.listed c.in_ok-check_state.ensures.listed c.begin_epoch.result c.begin_epoch.ensures.raised
+
+pub returns-clause-gapless : goal.returns-clause-gapless
+returns-clause-gapless g c =
+    all_gapless (g.D.Disk.tells c.args.disk.now) (g.D.Disk.tells c.read_journal.new.disk) c.read_journal.ensures.stays c.in_ok-journal.journal c.in_ok-journal.durable c.in_ok-journal.ensures.found
+    c.args.files.now c.requires.listed c.in_ok-check_state.ensures.listed c.begin_epoch.result c.begin_epoch.ensures.raised
+
+pub returns-in_err-journal-clause-kept : goal.returns-in_err-journal-clause-kept
+returns-in_err-journal-clause-kept g c =
+    let is = err_from_is_err_and c.from_residual.result c.from_residual.ensures.1 in
+    rw (is.1, is.2) (kept_at (g.D.Disk.tells c.args.disk.now) (g.D.Disk.tells c.read_journal.new.disk) (reads_keep (g.D.Disk.tells c.args.disk.now) (g.D.Disk.tells c.read_journal.new.disk) c.read_journal.ensures.stays)
+    c.in_err-journal.field-0.0)
+
+pub returns-in_err-check_state-clause-kept : goal.returns-in_err-check_state-clause-kept
+returns-in_err-check_state-clause-kept g c =
+    let is = err_from_is_err_and c.from_residual-in_err-check_state.result c.from_residual-in_err-check_state.ensures.1 in
+    rw (is.1, is.2) (kept_at (g.D.Disk.tells c.args.disk.now) (g.D.Disk.tells c.read_journal.new.disk) (reads_keep (g.D.Disk.tells c.args.disk.now) (g.D.Disk.tells c.read_journal.new.disk) c.read_journal.ensures.stays)
+    c.in_err-check_state.field-0.0)
+
+pub returns-clause-kept : goal.returns-clause-kept
+returns-clause-kept g c = kept_otherwise (g.D.Disk.tells c.args.disk.now) (g.D.Disk.tells c.begin_epoch.new.disk) c.begin_epoch.result c.begin_epoch.ensures.only

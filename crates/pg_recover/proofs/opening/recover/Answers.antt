@@ -1,13 +1,14 @@
-use Rattle.std.proofs.Common.{◌≡◌, ◌∙◌, sym, subst}
-use Rattle.std.specs.FinMap.{get, keys}
+use Rattle.std.proofs.Common.{◌∙◌, sym, subst}
+use Rattle.std.specs.FinMap.{get}
 use Rattle.std.specs.List.{All}
 use Rattle.pg_disk.specs.declared.file_id.FileId.{FileId}
-use Rattle.pg_disk.specs.Account.{account, IsHonest}
+use Rattle.pg_disk.specs.Account.{account}
 use Rattle.pg_disk.specs.Image.{IsFileThere}
 use Rattle.pg_gate.proofs.Reading.{one_read}
 use Rattle.pg_journal.specs.Stands.{IsQuietAt}
+use Rattle.pg_recover.specs.WellFormed.{IsGapless, IsNamed, IsThere}
 use Rattle.pg_recover.proofs.OpenLemmas.{opens_then}
-use Rattle.pg_recover.proofs.RecoverLemmas.{all_ill, all_moments, all_recovered, all_spent, can_sync, listed_now, listing_moments, listing_opens, moments_once_synced, on_ok, quiet_now, sync_moments, sync_opens}
+use Rattle.pg_recover.proofs.RecoverLemmas.{all_ill, all_kept, all_moments, all_next, all_recovered, all_seen, all_spent, can_sync, listed_now, listing_moments, moments_once_synced, on_ok, quiet_now, sync_moments, sync_opens}
 use Rattle.pg_recover.proofs.opening.recover.Goals as goal
 
 pub sync_all-requires : goal.sync_all-requires
@@ -24,12 +25,12 @@ open_synced-requires g c = record {
 }
 
 pub returns-in_err-files-clause-any_moment : goal.returns-in_err-files-clause-any_moment
-returns-in_err-files-clause-any_moment g c = λ honest.
+returns-in_err-files-clause-any_moment g c =
     listing_moments g.D.Disk.moment g.D.Disk.left_since g.D.Disk.tells c.args.disk.now c.list.new.self
     (one_read g.D.Disk.moment g.D.Disk.left_since g.D.Disk.tells c.args.disk.now c.list.new.self (g.met.D.Disk.only_now c.args.disk.now) c.list.ensures.time)
 
 pub returns-in_err-sync_all-clause-any_moment : goal.returns-in_err-sync_all-clause-any_moment
-returns-in_err-sync_all-clause-any_moment g c = λ honest.
+returns-in_err-sync_all-clause-any_moment g c =
     sync_moments g.D.Disk.moment g.D.Disk.left_since g.D.Disk.tells c.args.disk.now c.list.new.self
     (one_read g.D.Disk.moment g.D.Disk.left_since g.D.Disk.tells c.args.disk.now c.list.new.self (g.met.D.Disk.only_now c.args.disk.now) c.list.ensures.time)
     c.list.ensures.same c.sync_all.new.disk c.sync_all.ensures.any_moment
@@ -44,7 +45,7 @@ returns-clause-stays g c =
     (sync_opens (g.D.Disk.tells c.args.disk.now) (g.D.Disk.tells c.list.new.self) (g.D.Disk.tells c.sync_all.new.disk) c.list.ensures.same c.sync_all.ensures.stays) c.open_synced.ensures.stays
 
 pub returns-clause-any_moment : goal.returns-clause-any_moment
-returns-clause-any_moment g c = λ honest.
+returns-clause-any_moment g c =
     all_moments g.D.Disk.moment g.D.Disk.left_since g.D.Disk.tells c.args.disk.now c.list.new.self
     (one_read g.D.Disk.moment g.D.Disk.left_since g.D.Disk.tells c.args.disk.now c.list.new.self (g.met.D.Disk.only_now c.args.disk.now) c.list.ensures.time)
     c.list.ensures.same c.sync_all.new.disk c.sync_all.ensures.any_moment c.sync_all.ensures.stays c.open_synced.new.disk c.open_synced.ensures.any_moment
@@ -62,3 +63,22 @@ returns-clause-damaged g c =
 pub returns-clause-spent : goal.returns-clause-spent
 returns-clause-spent g c =
     all_spent (g.D.Disk.tells c.args.disk.now) (g.D.Disk.tells c.list.new.self) (g.D.Disk.tells c.sync_all.new.disk) c.list.ensures.same c.sync_all.ensures.stays c.open_synced.result c.args.limits.now.epochs c.open_synced.ensures.spent
+
+pub returns-clause-next : goal.returns-clause-next
+returns-clause-next g c =
+    all_next (g.D.Disk.tells c.args.disk.now) (g.D.Disk.tells c.list.new.self) (g.D.Disk.tells c.sync_all.new.disk) c.list.ensures.same c.sync_all.ensures.stays c.open_synced.result c.args.limits.now.epochs c.open_synced.ensures.next
+
+pub returns-clause-named : goal.returns-clause-named
+returns-clause-named g c =
+    all_seen (g.D.Disk.tells c.args.disk.now) (g.D.Disk.tells c.list.new.self) (g.D.Disk.tells c.sync_all.new.disk) c.list.ensures.same c.sync_all.ensures.stays c.open_synced.result
+    (λ contents parts. (file : FileId) → IsThere contents file → IsNamed parts.durable.addresses file) c.open_synced.ensures.named
+
+pub returns-clause-gapless : goal.returns-clause-gapless
+returns-clause-gapless g c =
+    all_seen (g.D.Disk.tells c.args.disk.now) (g.D.Disk.tells c.list.new.self) (g.D.Disk.tells c.sync_all.new.disk) c.list.ensures.same c.sync_all.ensures.stays c.open_synced.result
+    (λ contents parts. All (IsGapless contents) parts.durable.addresses) c.open_synced.ensures.gapless
+
+pub returns-clause-kept : goal.returns-clause-kept
+returns-clause-kept g c =
+    all_kept (g.D.Disk.tells c.args.disk.now) (g.D.Disk.tells c.list.new.self) (g.D.Disk.tells c.sync_all.new.disk) c.list.ensures.same c.sync_all.ensures.stays c.open_synced.result (g.D.Disk.tells c.open_synced.new.disk)
+    c.open_synced.ensures.kept

@@ -1,4 +1,4 @@
-use Rattle.std.proofs.Common.{List, ℕ, subst, sym}
+use Rattle.std.proofs.Common.{List, ℕ, subst}
 use Rattle.std.specs.Prelude.{IfOk, IfErr}
 use Rattle.pg_recover.specs.Folding.{FoldsFrom, FoldsNowhere, IsDamage}
 use Rattle.pg_recover.specs.Places.{payloads_from}

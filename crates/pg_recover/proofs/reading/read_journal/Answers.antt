@@ -4,10 +4,10 @@ use Rattle.pg_disk.specs.declared.file_id.FileId.{FileId}
 use Rattle.pg_disk.specs.Account.{account, IsHonest}
 use Rattle.pg_disk.specs.Image.{IsFileThere}
 use Rattle.pg_disk.proofs.Runs.{then_run, weaker}
+use Rattle.pg_fold.specs.Sound.{IsSound}
+use Rattle.pg_fold.proofs.SoundLaws.{sound_fresh}
 use Rattle.pg_journal.specs.Stands.{name_of}
-use Rattle.pg_recover.specs.Folding.{IsFit}
 use Rattle.pg_recover.proofs.FindLemmas.{cut_ill, finding_leaves, found_ill, found_leaves, found_there, folds_named, nowhere_named, read_from, then_reads}
-use Rattle.pg_recover.proofs.FitLemmas.{fresh_fit}
 use Rattle.pg_recover.proofs.PieceLemmas.{damage_only_weaker}
 use Rattle.pg_recover.proofs.reading.read_journal.Goals as goal
 
@@ -15,7 +15,7 @@ pub read_payloads-requires : goal.read_payloads-requires
 read_payloads-requires g c = record {
   there = subst (λ (f : FileId). IsHonest (g.D.Disk.tells c.find.new.disk) → IsFileThere f (account (g.D.Disk.tells c.find.new.disk)).files) (sym c.file.ensures)
       (found_there (g.D.Disk.tells c.args.disk.now) (g.D.Disk.tells c.find.new.disk) c.find.ensures.stays c.in_ok-journal.journal c.in_ok-journal.spans.items c.in_ok-journal.ensures.found);
-  fit = subst IsFit (sym c.fresh.ensures) fresh_fit;
+  sound = subst IsSound (sym c.fresh.ensures) sound_fresh;
 }
 
 pub returns-in_err-journal-clause-any_moment : goal.returns-in_err-journal-clause-any_moment

@@ -17,7 +17,7 @@ groups-init g c = record {
   same = no_reads (g.D.Disk.tells c.args.disk.now);
   run = started g.D.Disk.moment g.D.Disk.left_since c.args.disk.now _ (g.met.D.Disk.only_now c.args.disk.now);
   faults = refl;
-  fit = c.requires.fit;
+  sound = c.requires.sound;
   so_far = λ honest s there are. (are, alike_itself _ _);
 }
 
@@ -25,7 +25,7 @@ pub read_group-requires : goal.read_group-requires
 read_group-requires g c = record {
   there = still_there c.args.file (g.D.Disk.tells c.args.disk.now) (g.D.Disk.tells c.groups.disk) c.groups.invariant.count c.groups.invariant.same c.requires.there;
   covers = subst (λ (l : List Span). Covers c.first_group-count.result.1 l) (sym c.split_at.ensures.front) c.first_group-count.ensures.covers;
-  fit = c.groups.invariant.fit;
+  sound = c.groups.invariant.sound;
 }
 
 pub returns-in_err-durable-clause-same : goal.returns-in_err-durable-clause-same
@@ -53,7 +53,7 @@ groups-preserved g c = record {
   same = reads_then (g.D.Disk.tells c.args.disk.now) (g.D.Disk.tells c.groups.disk) (g.D.Disk.tells c.read_group.new.disk) c.groups.invariant.count c.read_group.ensures.same.0 c.groups.invariant.same c.read_group.ensures.same.1;
   run = run_reads g.D.Disk.moment g.D.Disk.left_since g.D.Disk.tells c.args.disk.now c.groups.disk c.read_group.new.disk c.groups.invariant.count c.groups.invariant.same c.groups.invariant.run c.read_group.ensures.any_moment;
   faults = c.in_ok-durable.ensures.cause ∙ c.groups.invariant.faults;
-  fit = c.in_ok-durable.ensures.fit;
+  sound = c.in_ok-durable.ensures.sound;
   so_far = subst (λ (l : List Span). LeadsTo c.args.file (g.D.Disk.tells c.args.disk.now) c.args.spans.now c.args.durable c.in_ok-durable.durable l) (sym c.split_at.ensures.back)
       (group_leads c.args.file (g.D.Disk.tells c.args.disk.now) (g.D.Disk.tells c.groups.disk) c.groups.invariant.count c.groups.invariant.same c.args.spans.now c.groups.rest.now c.args.durable c.groups.durable
       c.groups.invariant.so_far c.first_group-count.result.0 c.first_group-count.result.1 c.first_group-count.ensures.inside c.in_ok-durable.durable

@@ -2,7 +2,7 @@ use Rattle.std.proofs.Common.{◌≡◌, ℕ, length}
 use Rattle.pg_disk.specs.Calls.{Changes, Reads}
 use Rattle.pg_disk.specs.Image.{Leaves}
 use Rattle.pg_disk.specs.Moments.{Within}
-use Rattle.pg_recover.specs.Folding.{IsFit}
+use Rattle.pg_fold.specs.Sound.{IsSound}
 use Rattle.pg_recover.proofs.PieceLemmas.{LeadsTo}
 use Rattle.pg_recover.proofs.reading.read_payloads.Given as goal
 
@@ -12,7 +12,7 @@ invariant-groups g l = record {
   same : Changes (g.D.Disk.tells l.fn.disk) (g.D.Disk.tells l.disk) (Reads count);
   run : Within g.D.Disk.moment g.D.Disk.left_since l.fn.disk l.disk (Leaves (g.D.Disk.tells l.fn.disk));
   faults : g.D.Disk.faults l.disk ≡ g.D.Disk.faults l.fn.disk;
-  fit : IsFit l.durable;
+  sound : IsSound l.durable;
   so_far : LeadsTo l.file (g.D.Disk.tells l.fn.disk) l.spans l.fn.durable l.durable l.rest;
 }
 

@@ -1,7 +1,7 @@
 use Rattle.std.proofs.Common.{◌∙◌, refl, arith}
 use Rattle.pg_disk.specs.Account.{account}
 use Rattle.pg_disk.proofs.Runs.{started, then_run}
-use Rattle.pg_recover.proofs.RemoveLemmas.{all_gone, all_left, can_remove, none_gone, none_removed, one_gone, others_leave, then_removed}
+use Rattle.pg_recover.proofs.RemoveLemmas.{all_gone, all_left, none_gone, none_removed, one_gone, others_leave, then_removed}
 use Rattle.pg_recover.proofs.removing.remove_others.Goals as goal
 
 pub loop-file-init : goal.loop-file-init

@@ -1,6 +1,4 @@
 use Rattle.std.proofs.Common.{◌∙◌, refl, arith}
-use Rattle.std.specs.Result.{is_ok}
-use Rattle.pg_disk.specs.declared.file_id.FileId.{FileId}
 use Rattle.pg_disk.proofs.Runs.{started, goes_on}
 use Rattle.pg_recover.proofs.SyncLemmas.{none_synced, syncs_leave, still_there, then_synced, one_quiet}
 use Rattle.pg_recover.proofs.syncing.sync_all.Goals as goal

@@ -1,7 +1,7 @@
 use Rattle.std.proofs.Common.{◌≡◌, ◌+◌, ◌<◌, ℕ, length, take, get_or, min}
 use Rattle.pg_recover.specs.Denotation.{weight_at}
 use Rattle.pg_recover.proofs.RoomLemmas.{most}
-use Rattle.pg_recover.proofs.room.weights.Given as goal
+use Rattle.pg_recover.proofs.room.weights_by_address.Given as goal
 
 abbrev pub invariant-loop-row : goal.invariant-loop-row
 invariant-loop-row l = record {

@@ -1,6 +1,6 @@
 use Rattle.std.proofs.Common.{◌∙◌}
 use Rattle.pg_recover.proofs.RoomLemmas.{weights_done, weights_next}
-use Rattle.pg_recover.proofs.room.weights.Goals as goal
+use Rattle.pg_recover.proofs.room.weights_by_address.Goals as goal
 
 pub loop-row-preserved : goal.loop-row-preserved
 loop-row-preserved c = record {
