@@ -153,7 +153,11 @@ impl State {
             drawn,
             ids,
         } = self;
-        let (durable, batch) = record_entry(alloc, durable, address_entry(id, name.copy()?, settings))?;
+        let (durable, batch) = record_entry(
+            alloc,
+            durable,
+            address_entry(id, name.copy()?, settings),
+        )?;
         let routes = routes.add_address(alloc, id, name)?;
         add_weight(&mut weights)?;
         let state = State {
@@ -368,11 +372,7 @@ fn name_queues(mut routes: Routes, queues: &[QueueRow]) -> Result<Routes, AllocE
 }
 
 // The batch of the entry, and the state behind it. Its condition holds.
-fn record_entry(
-    alloc: Global,
-    durable: Durable,
-    entry: Entry,
-) -> Result<(Durable, Octets), Fault>
+fn record_entry(alloc: Global, durable: Durable, entry: Entry) -> Result<(Durable, Octets), Fault>
     requires condition { rule_of durable entry ≡ None }
     requires fields { HasFields entry }
     ensures changed { IfOk result (λ recorded. recorded.0 ≡ changed durable entry) }
@@ -415,12 +415,7 @@ fn address_entry(address: u32, name: Text, settings: Settings) -> Entry
 }
 
 // The entry of a queue without a filter.
-fn queue_entry(
-    alloc: Global,
-    queue: u32,
-    address: u32,
-    name: Text,
-) -> Result<Entry, AllocError>
+fn queue_entry(alloc: Global, queue: u32, address: u32, name: Text) -> Result<Entry, AllocError>
     ensures { IfOk result (λ entry. entry ≡ Entry.Queue queue address name []) }
 {
     Ok(Entry::Queue {

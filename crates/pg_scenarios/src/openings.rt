@@ -29,8 +29,7 @@ const PAGE: FileId = FileId {
 /// The journal of a broker that was opened once, and of one that was opened twice.
 const ONCE: &[u8] = b"\x01\0\0\0\0\0\0\0\x05\x01\0\0\0\x01\0";
 
-const TWICE: &[u8] =
-    b"\x01\0\0\0\0\0\0\0\x05\x01\0\0\0\x01\x01\0\0\0\0\0\0\0\x05\x01\0\0\0\x02\0";
+const TWICE: &[u8] = b"\x01\0\0\0\0\0\0\0\x05\x01\0\0\0\x01\x01\0\0\0\0\0\0\0\x05\x01\0\0\0\x02\0";
 
 /// The same, with another byte as the last gate.
 const ONCE_AND_7: &[u8] = b"\x01\0\0\0\0\0\0\0\x05\x01\0\0\0\x01\x07";
@@ -78,7 +77,8 @@ fn a_second_run_goes_on_where_the_first_ended(rt: HostRuntime) -> Result<(), Fai
     let mut site = MemSite::new(rt.alloc());
     assert_eq!(rt; run(rt.alloc(), &mut site, EXAMPLE)?, 0);
     let told = site.told().len();
-    let second = b"queue R on A\ncount Q\ncount R\nsend A body x\naddress A max 1 page 1 ahead 0 dup 0\n";
+    let second =
+        b"queue R on A\ncount Q\ncount R\nsend A body x\naddress A max 1 page 1 ahead 0 dup 0\n";
     assert_eq!(rt; run(rt.alloc(), &mut site, second)?, 0);
     // The address has no room for a further message.
     assert_eq!(rt;
@@ -86,7 +86,8 @@ fn a_second_run_goes_on_where_the_first_ended(rt: HostRuntime) -> Result<(), Fai
         Some(b"ok\ncount 3\ncount 0\nno line\nno name\n".as_slice())
     );
     let told = site.told().len();
-    let third = b"address B max 9 page 1 ahead 0 dup 0\nqueue S on B\nsend B body y\ncount S\ncount R\nqueue R on B\n";
+    let third =
+        b"address B max 9 page 1 ahead 0 dup 0\nqueue S on B\nsend B body y\ncount S\ncount R\nqueue R on B\n";
     assert_eq!(rt; run(rt.alloc(), &mut site, third)?, 0);
     assert_eq!(rt;
         site.told().get(told..),
@@ -127,12 +128,20 @@ fn files_are_opened_or_refused(rt: HostRuntime) -> Result<(), Fail> {
         (&[(JOURNAL, TWICE), (SECOND, ONCE)], 0, &[(SECOND, TWICE)]),
         (&[(SECOND, b"\0")], 0, &[(SECOND, ONCE)]),
         // Damage, and nothing is changed.
-        (&[(JOURNAL, ONCE), (OTHER, ONCE)], 2, &[(JOURNAL, ONCE), (OTHER, ONCE)]),
+        (
+            &[(JOURNAL, ONCE), (OTHER, ONCE)],
+            2,
+            &[(JOURNAL, ONCE), (OTHER, ONCE)],
+        ),
         (&[(JOURNAL, SAME_EPOCH)], 2, &[(JOURNAL, SAME_EPOCH)]),
         (&[(JOURNAL, NO_QUEUE)], 2, &[(JOURNAL, NO_QUEUE)]),
         (&[(JOURNAL, NO_ENTRY)], 2, &[(JOURNAL, NO_ENTRY)]),
         (&[(JOURNAL, CUT)], 2, &[(JOURNAL, CUT)]),
-        (&[(JOURNAL, ONCE), (PAGE, b"\0")], 2, &[(JOURNAL, ONCE), (PAGE, b"\0")]),
+        (
+            &[(JOURNAL, ONCE), (PAGE, b"\0")],
+            2,
+            &[(JOURNAL, ONCE), (PAGE, b"\0")],
+        ),
     ];
     let mut number = 0u64;
     for (files, status, after) in table {
@@ -141,7 +150,10 @@ fn files_are_opened_or_refused(rt: HostRuntime) -> Result<(), Fail> {
         assert_eq!(rt; run(rt.alloc(), &mut site, b"")?, status, "case {number}");
         assert_eq!(rt; site.told(), b"".as_slice(), "case {number}");
         for file in [JOURNAL, SECOND, OTHER, PAGE] {
-            let wanted = after.iter().find(|entry| entry.0 == file).map(|entry| entry.1);
+            let wanted = after
+                .iter()
+                .find(|entry| entry.0 == file)
+                .map(|entry| entry.1);
             assert_eq!(rt; site.bytes(file), wanted, "case {number}");
         }
     }
@@ -226,8 +238,7 @@ fn each_opening_begins_an_epoch(rt: HostRuntime) -> Result<(), Fail> {
     }
     // A batch of an epoch has 14 bytes with its gate.
     assert_eq!(rt; site.bytes(JOURNAL).ok_or("journal")?.len(), 141);
-    let script =
-        b"address A max 50 page 100 ahead 0 dup 0\nqueue Q on A\nsend A body x\n";
+    let script = b"address A max 50 page 100 ahead 0 dup 0\nqueue Q on A\nsend A body x\n";
     assert_eq!(rt; run(rt.alloc(), &mut site, script)?, 0);
     assert_eq!(rt; site.told(), b"ok\nok\nsent 11-1\n".as_slice());
     Ok(())
