@@ -4,7 +4,7 @@ ghost use Rattle.pg_disk.specs.Account.{account, IsHonest};
 ghost use Rattle.pg_disk.specs.Calls.{Changes};
 ghost use Rattle.pg_disk.specs.Counts.{CountsFault};
 ghost use Rattle.pg_disk.specs.Moments.{Within, WithinFrom};
-ghost use Rattle.pg_recover.specs.Recovered.{BeganQuiet, HasNoEpoch, IsIllFormed, IsSpentAt, OpensFiles};
+ghost use Rattle.pg_recover.specs.Recovered.{AreKept, BeganQuiet, HasNoEpoch, IsIllFormed, IsSpentAt, OpensFiles};
 ghost use Rattle.pg_engine.specs.Opened.{LeavesEpoch, OpensAt};
 
 use crate::engine::Engine;
@@ -25,6 +25,7 @@ pub fn open<D: Disk>(alloc: Global, disk: &mut D, limits: &Limits) -> Result<Eng
     ensures once_quiet { OnOk result (WithinFrom D.moment D.left_since disk.old disk.new (LeavesEpoch (Unit {0}) (D.tells disk.old))) }
 
     ensures damaged { IfErr result (IsIllFormed (D.tells disk.old)) }
+    ensures kept { IfErr result (AreKept (D.tells disk.old) (D.tells disk.new)) }
     ensures spent { IfErr result (IsSpentAt limits.now.epochs (D.tells disk.old)) }
     ensures next { OnOk result (IsHonest (D.tells disk.old) → HasNoEpoch limits.now.epochs (account (D.tells disk.old)).files → ⊥) }
     ensures cause { CountsFault (D.faults disk.old) (D.faults disk.new) result }

@@ -5,7 +5,7 @@ ghost use Rattle.pg_disk.specs.Calls.{Changes};
 ghost use Rattle.pg_journal.specs.Generations.{as_read};
 ghost use Rattle.pg_recover.specs.Broker.{Durable};
 ghost use Rattle.pg_recover.specs.Denotation.{Denotes};
-ghost use Rattle.pg_recover.specs.Recovered.{AreIllFormed, HasNoEpoch, OpensFiles};
+ghost use Rattle.pg_recover.specs.Recovered.{AreIllFormed, HasNoEpoch, KeepsFiles};
 ghost use Rattle.pg_recover.specs.WellFormed.{WellFormed};
 ghost use Rattle.pg_run.specs.ProgramWords.{AreRunWords, IsDirectory};
 ghost use Rattle.pg_run.specs.Ran.{RanOpened, ServesOpened, CountsStatus, IsProgramStatus, IsAnyBut, IsSpared};
@@ -38,7 +38,7 @@ pub fn pagebroker<S: Site, R: Source>(
         WellFormed (as_read (account (S.tells site.old)).files) → (HasNoEpoch LIMITS.epochs (account (S.tells site.old)).files → ⊥) → (result ≡ 0) ⊎ (result ≡ 6) }
     ensures denoted { IsAnyBut (1 ∷ 2 ∷ 3 ∷ 6 ∷ []) result → IsHonest (S.tells site.old) → (durable : Durable) × Denotes (as_read (account (S.tells site.old)).files) durable }
     ensures epochs { IsAnyBut (1 ∷ 2 ∷ 3 ∷ 6 ∷ 8 ∷ []) result → IsHonest (S.tells site.old) → HasNoEpoch LIMITS.epochs (account (S.tells site.old)).files → ⊥ }
-    ensures damaged { result ≡ 2 → AreIllFormed (S.tells site.old) × Changes (S.tells site.old) (S.tells site.new) OpensFiles }
+    ensures damaged { result ≡ 2 → AreIllFormed (S.tells site.old) × Changes (S.tells site.old) (S.tells site.new) KeepsFiles }
     ensures counts { CountsStatus (S.faults site.old) (S.faults site.new) (R.faults source.old) (R.faults source.new) result }
     ensures status { IsProgramStatus result }
 {

@@ -5,7 +5,7 @@ ghost use Rattle.pg_disk.specs.Calls.{Changes};
 ghost use Rattle.pg_journal.specs.Generations.{as_read};
 ghost use Rattle.pg_recover.specs.Broker.{Durable};
 ghost use Rattle.pg_recover.specs.Denotation.{Denotes};
-ghost use Rattle.pg_recover.specs.Recovered.{AreIllFormed, HasNoEpoch, OpensFiles};
+ghost use Rattle.pg_recover.specs.Recovered.{AreIllFormed, HasNoEpoch, KeepsFiles};
 ghost use Rattle.pg_recover.specs.WellFormed.{WellFormed};
 ghost use Rattle.pg_run.specs.Ran.{RanOpened, ServesOpened, status_of, status_of_stop, CountsStop, CountsStatus, IsDamagedStop, IsStatus, IsAnyBut, IsSpared};
 
@@ -25,7 +25,7 @@ pub fn serve<S: Site, R: Source>(alloc: Global, source: &mut R, site: &mut S, li
         (R.rest source.new ≡ Some []) × ServesOpened limits.now.ids input (account (S.tells site.old)) (account (S.tells site.new)) }
     ensures complete { IsSpared S.tells (R.rest source.old) limits.now.input site.old site.new (S.faults site.old) (S.faults site.new) (R.faults source.old) (R.faults source.new) →
         WellFormed (as_read (account (S.tells site.old)).files) → (HasNoEpoch limits.now.epochs (account (S.tells site.old)).files → ⊥) → (result ≡ 0) ⊎ (result ≡ 6) }
-    ensures damaged { result ≡ 2 → AreIllFormed (S.tells site.old) × Changes (S.tells site.old) (S.tells site.new) OpensFiles }
+    ensures damaged { result ≡ 2 → AreIllFormed (S.tells site.old) × Changes (S.tells site.old) (S.tells site.new) KeepsFiles }
     ensures denoted { IsAnyBut (2 ∷ 3 ∷ 6 ∷ []) result → IsHonest (S.tells site.old) → (durable : Durable) × Denotes (as_read (account (S.tells site.old)).files) durable }
     ensures epochs { IsAnyBut (2 ∷ 3 ∷ 6 ∷ 8 ∷ []) result → IsHonest (S.tells site.old) → HasNoEpoch limits.now.epochs (account (S.tells site.old)).files → ⊥ }
     ensures counts { CountsStatus (S.faults site.old) (S.faults site.new) (R.faults source.old) (R.faults source.new) result }
@@ -46,7 +46,7 @@ fn run<S: Site, R: Source>(
 ) -> Result<(), Stop>
     ensures ran { RanOpened (HasNoEpoch limits.now.epochs (account (S.tells site.old)).files) S.moment S.left_since S.tells limits.now.ids
         limits.now.input (R.rest source.old) (R.rest source.new) site.old site.new (status_of result) }
-    ensures damaged { IfErr result (λ stop. IsDamagedStop stop → AreIllFormed (S.tells site.old) × Changes (S.tells site.old) (S.tells site.new) OpensFiles) }
+    ensures damaged { IfErr result (λ stop. IsDamagedStop stop → AreIllFormed (S.tells site.old) × Changes (S.tells site.old) (S.tells site.new) KeepsFiles) }
     ensures denoted { IsAnyBut (2 ∷ 3 ∷ 6 ∷ []) (status_of result) → IsHonest (S.tells site.old) → (durable : Durable) × Denotes (as_read (account (S.tells site.old)).files) durable }
     ensures epochs { IsAnyBut (2 ∷ 3 ∷ 6 ∷ 8 ∷ []) (status_of result) → IsHonest (S.tells site.old) → HasNoEpoch limits.now.epochs (account (S.tells site.old)).files → ⊥ }
     ensures cause { CountsStop (S.faults site.old) (S.faults site.new) (R.faults source.old) (R.faults source.new) result }
