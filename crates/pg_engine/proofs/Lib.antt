@@ -1,2 +1,9 @@
+pub mod EntryLemmas
 pub mod Executing
+pub mod FitLemmas
+pub mod NameLemmas
+pub mod OpenedState
 pub mod OpeningLemmas
+pub mod PartLemmas
+pub mod StepLemmas
+pub mod WeightLemmas

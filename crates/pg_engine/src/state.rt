@@ -1,5 +1,5 @@
 // The state of the broker in memory, and what each command does to it.
-ghost use Rattle.std.specs.Prelude.{◌≡◌, ◌≢◌, ◌≤◌, ◌<◌, ◌+◌, ◌++◌, ◌∷◌, ◌↔◌, [], List, ℕ, map, All, AllPairs, IsTrue, Some, None, IfOk, IfErr, OnOk, length};
+ghost use Rattle.std.specs.Prelude.{◌≡◌, ◌≢◌, ◌≤◌, ◌<◌, ◌+◌, ◌^◌, ◌++◌, ◌∷◌, ◌↔◌, [], List, ℕ, map, All, AllPairs, IsTrue, Some, None, IfOk, IfErr, OnOk, length};
 ghost use Rattle.pg_msg.specs.Commands.{IsInRange, longest_body};
 ghost use Rattle.pg_records.specs.Entries.{HasFields, batch_bytes};
 ghost use Rattle.pg_fold.specs.Fold.{rule_of, changed};
@@ -232,7 +232,7 @@ impl State {
         if numbers.is_empty() {
             return Ok(self.unchanged(Reply::Unrouted));
         }
-        let queues = QueueIds::from_vec(Vec::from_slice(alloc, numbers)?);
+        let queues = queue_ids(alloc, numbers)?;
         if self.drawn >= self.ids || !self.has_room(address) {
             return Ok(self.unchanged(Reply::No(Refusal::Line)));
         }
@@ -250,6 +250,7 @@ impl State {
         requires known { IsId (length self.durable.addresses) address }
         requires routed { queues ≡ numbers_at address (names_in self.durable).queues }
         requires some { queues ≢ [] }
+        requires in_range { All (λ queue. queue < 2 ^ 32) queues }
         requires short { length body ≤ longest_body }
         requires left { self.drawn < self.ids }
         requires room { HasRoom self.durable address }
@@ -412,6 +413,14 @@ fn address_entry(address: u32, name: Text, settings: Settings) -> Entry
         ahead: settings.ahead,
         dup: settings.dup,
     }
+}
+
+// The queues with these numbers.
+fn queue_ids(alloc: Global, numbers: &[u32]) -> Result<QueueIds, AllocError>
+    ensures same { IfOk result (λ queues. queues ≡ numbers.now) }
+    ensures in_range { All (λ number. number < 2 ^ 32) numbers.now }
+{
+    Ok(QueueIds::from_vec(Vec::from_slice(alloc, numbers)?))
 }
 
 // The entry of a queue without a filter.

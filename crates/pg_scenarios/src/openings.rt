@@ -243,3 +243,34 @@ fn each_opening_begins_an_epoch(rt: HostRuntime) -> Result<(), Fail> {
     assert_eq!(rt; site.told(), b"ok\nok\nsent 11-1\n".as_slice());
     Ok(())
 }
+
+#[test]
+fn the_journal_is_read_in_large_pieces(rt: HostRuntime) -> Result<(), Fail> {
+    let mut script = Vec::new(rt.alloc());
+    script.extend_from_slice(b"address A max 1000000 page 1 ahead 0 dup 0\nqueue Q on A\n")?;
+    for _ in 0..200 {
+        script.extend_from_slice(b"send A body ")?;
+        for _ in 0..100 {
+            script.extend_from_slice(b"0123456789")?;
+        }
+        script.push(b'\n')?;
+    }
+    let mut first = MemSite::new(rt.alloc());
+    assert_eq!(rt; run(rt.alloc(), &mut first, script.as_slice())?, 0);
+    let journal = first.bytes(JOURNAL).ok_or("journal")?;
+    // The batches of the epoch, the address, the queue and 200 messages, and the gates of these.
+    assert_eq!(rt; journal.len(), 207_081);
+    let mut second = MemSite::new(rt.alloc());
+    second.put(JOURNAL, journal)?;
+    assert_eq!(rt; run(rt.alloc(), &mut second, b"count Q\n")?, 0);
+    assert_eq!(rt; second.told(), b"count 200\n".as_slice());
+    let mut reads = 0u64;
+    for number in 1..second.calls().saturating_add(1) {
+        if second.call(number) == Some(CallKind::Read(JOURNAL)) {
+            reads = reads.saturating_add(1);
+        }
+    }
+    // One read for each gate, the closed one too, and four for pieces of up to 64 KiB.
+    assert_eq!(rt; reads, 208);
+    Ok(())
+}
