@@ -294,7 +294,7 @@ fn reads_messages(rt: HostRuntime) -> Result<(), Fail> {
         added(alloc, 4, 1, 60_000)?,
     ]?;
     assert_eq!(rt; opened(alloc, &batches, &[])?, Ok(4));
-    // Messages of 60,024 bytes: one has room, and two haven't.
+    // Messages of 60,015 bytes: one has room, and two haven't.
     let light = vec![in alloc; made(alloc, 0)?, added(alloc, 1, 1, 60_000)?]?;
     assert_eq!(rt; opened(alloc, &light, &[])?, Ok(1));
     let heavy = vec![in alloc;

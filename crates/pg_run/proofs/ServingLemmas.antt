@@ -25,14 +25,14 @@ use Rattle.pg_engine.specs.declared.engine.Engine.{Engine}
 use Rattle.pg_journal.specs.Generations.{as_left, as_read}
 use Rattle.pg_recover.specs.Broker.{Durable, Broker, opened_from, last_state}
 use Rattle.pg_recover.specs.Denotation.{Denotes, durable_part}
-use Rattle.pg_recover.specs.Recovered.{AreIllFormed, BeganQuiet, HasNoEpoch, IsSpentAt, OpensFiles}
+use Rattle.pg_recover.specs.Recovered.{AreIllFormed, AreKept, BeganQuiet, HasNoEpoch, IsSpentAt, OpensFiles}
 use Rattle.pg_recover.specs.WellFormed.{WellFormed}
 use Rattle.pg_engine.specs.Executed.{state_of}
 use Rattle.pg_engine.specs.Opened.{LeavesEpoch, OpensAt}
 use Rattle.pg_engine.proofs.OpeningLemmas.{one_denoted}
 use Rattle.pg_run.specs.declared.run.Stop.{Stop}
 use Rattle.pg_run.specs.declared.run.Stop.TheVariants.{Site, Source}
-use Rattle.pg_run.specs.Ran.{IsAnyBut, IsInputServed, Replies, Ran, RanOpened, ServesOpened, status_of_fault, StopCounts, IsDamagedStop, IsSpared, status_of_stop}
+use Rattle.pg_run.specs.Ran.{IsAnyBut, IsInputServed, IsUnopened, Replies, Ran, RanOpened, ServesOpened, status_of_fault, StopCounts, IsDamagedStop, IsSpared, status_of_stop}
 use Rattle.pg_run.specs.Served.{AnyTime, Tells, IsBetween, LeavesBetween, LeavesRun}
 use Rattle.pg_run.proofs.Ending.{takes_nothing}
 use Rattle.pg_run.proofs.RunLemmas.{line_some, run_lengths}
@@ -265,12 +265,12 @@ module _ {D : Type 0} (moment : D → ℕ) (left_since : D → ℕ → Files →
   denotes_well = record { state = well.state; folds = well.folds; is = refl }
 
   pub completes : (stop : Stop) → StopCounts stop site_old site_new source_old source_new → (IsDamagedStop stop → AreIllFormed (tells old))
-      → RanOpened (HasNoEpoch epochs (account (tells old)).files) moment left_since tells ids limit rest_old rest_new old new (status_of_stop stop) → status_of_stop stop ≡ 6
+      → RanOpened (IsUnopened epochs (tells old) (tells new)) moment left_since tells ids limit rest_old rest_new old new (status_of_stop stop) → status_of_stop stop ≡ 6
   completes (Site (site.Disk fault.Failed)) counts damaged ran = absurd (spared.disk counts.0.disk)
   completes (Site (site.Disk (fault.Damaged damage))) counts damaged ran = absurd (damaged tt spared.honest well)
   completes (Site (site.Disk fault.Spent)) counts damaged ran =
       let r = ran.replies (durable_part well.state) spared.honest denotes_well in
-      absurd (⊎_elim never (λ full. spared.room (last_state (opened_from ids (durable_part well.state)) r.serves.states) full.0 full.3) (r.full refl))
+      absurd (⊎_elim (λ unopened. never unopened.none) (λ full. spared.room (last_state (opened_from ids (durable_part well.state)) r.serves.states) full.0 full.3) (r.full refl))
   completes (Site (site.Disk fault.Memory)) counts damaged ran = refl
   completes (Site site.Sink) counts damaged ran = absurd (spared.output counts.0.output)
   completes (Source reading.Failed) counts damaged ran = absurd (spared.source counts.1)
@@ -287,12 +287,12 @@ failed_denoted tells old epochs (fault.Damaged damage) spent other honest = absu
 failed_denoted tells old epochs fault.Spent spent other honest = let none = spent honest in (durable_part none.state, record { state = none.state; folds = none.folds; is = refl })
 failed_denoted tells old epochs fault.Memory spent other honest = absurd (other.1.1.0 refl)
 
--- where it is spent there is no next epoch
-pub spent_none : {D : Type 0} (tells : D → Option Account) (old : D) (epochs : ℕ) (cause : Fault) → IsSpentAt epochs (tells old) cause → IsHonest (tells old) → cause ≡ fault.Spent → HasNoEpoch epochs (account (tells old)).files
-spent_none tells old epochs fault.Failed spent honest is = cc
-spent_none tells old epochs (fault.Damaged damage) spent honest is = cc
-spent_none tells old epochs fault.Spent spent honest is = spent honest
-spent_none tells old epochs fault.Memory spent honest is = cc
+-- where it is spent there is no next epoch, and the files are kept
+pub spent_unopened : {D : Type 0} (tells : D → Option Account) (old new : D) (epochs : ℕ) (cause : Fault) → IsSpentAt epochs (tells old) cause → AreKept (tells old) (tells new) cause → IsHonest (tells old) → cause ≡ fault.Spent → IsUnopened epochs (tells old) (tells new)
+spent_unopened tells old new epochs fault.Failed spent kept honest is = cc
+spent_unopened tells old new epochs (fault.Damaged damage) spent kept honest is = cc
+spent_unopened tells old new epochs fault.Spent spent kept honest is = record { none = spent honest; kept = kept }
+spent_unopened tells old new epochs fault.Memory spent kept honest is = cc
 
 pub opens_denoted : (ids : ℕ) (old new : Option Account) (engine : Engine) → OpensAt ids old new engine → (durable : Durable) × Denotes (as_read (account old).files) durable
 opens_denoted ids old new engine opens = (opens.opened.durable, opens.opened.denoted)

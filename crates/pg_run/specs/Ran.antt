@@ -5,6 +5,7 @@ use Rattle.pg_disk.specs.declared.fault.Fault.{Fault}
 use Rattle.pg_disk.specs.declared.fault.Fault.TheVariants as fault
 use Rattle.pg_disk.specs.declared.fault.SiteFault.TheVariants as site
 use Rattle.pg_disk.specs.Account.{Account, account, IsHonest}
+use Rattle.pg_disk.specs.Calls.{Changes}
 use Rattle.pg_disk.specs.Counts.{FaultCounts, SiteFaultCountsAs, Rose, DiskFailed, OutputFailed}
 use Rattle.pg_disk.specs.Files.{Files}
 use Rattle.pg_disk.specs.Image.{IsImage}
@@ -21,7 +22,7 @@ use Rattle.pg_journal.specs.Generations.{as_left, as_read}
 use Rattle.pg_engine.specs.declared.engine.Engine.{Engine}
 use Rattle.pg_recover.specs.Broker.{Broker, Durable, Run, last_state, opened_from}
 use Rattle.pg_recover.specs.Denotation.{Denotes}
-use Rattle.pg_recover.specs.Recovered.{BeganQuiet}
+use Rattle.pg_recover.specs.Recovered.{BeganQuiet, HasNoEpoch, KeepsFiles}
 use Rattle.pg_engine.specs.Executed.{StandsAt, MeetsLimit}
 use Rattle.pg_engine.specs.Executed.{IsDamaged}
 use Rattle.pg_run.specs.declared.run.Stop.{Stop}
@@ -92,6 +93,11 @@ pub record Ran {D : Type 0} (leaving : Broker → List Reply → List Broker →
 abbrev pub IsAnyBut : List ℕ → ℕ → Type 0
 IsAnyBut [] status = Unit {0}
 IsAnyBut (other ∷ others) status = (status ≢ other) × IsAnyBut others status
+
+-- No epoch was left, and the files are kept.
+pub record IsUnopened (epochs : ℕ) (old new : Option Account) : Type 0 where
+  pub none : HasNoEpoch epochs (account old).files
+  pub kept : Changes old new KeepsFiles
 
 -- The same of a run that begins with opening, from what the files denote. A crash is spoken of where nothing was pending at the beginning, and where
 -- something was from some moment on, if the opening came to its end.

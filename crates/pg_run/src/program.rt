@@ -8,7 +8,7 @@ ghost use Rattle.pg_recover.specs.Denotation.{Denotes};
 ghost use Rattle.pg_recover.specs.Recovered.{AreIllFormed, HasNoEpoch, KeepsFiles};
 ghost use Rattle.pg_recover.specs.WellFormed.{WellFormed};
 ghost use Rattle.pg_run.specs.ProgramWords.{AreRunWords, IsDirectory};
-ghost use Rattle.pg_run.specs.Ran.{RanOpened, ServesOpened, CountsStatus, IsProgramStatus, IsAnyBut, IsSpared};
+ghost use Rattle.pg_run.specs.Ran.{IsUnopened, RanOpened, ServesOpened, CountsStatus, IsProgramStatus, IsAnyBut, IsSpared};
 
 use crate::serving::serve;
 use pg_disk::{Site, Source};
@@ -30,7 +30,7 @@ pub fn pagebroker<S: Site, R: Source>(
     ensures untouched { result ≡ 1 → (site.new ≡ site.old) × (source.new ≡ source.old) }
 
     // Replies, statuses, and what a crash at any moment leaves, over whatever files are there.
-    ensures ran { result ≢ 1 → RanOpened (HasNoEpoch LIMITS.epochs (account (S.tells site.old)).files) S.moment S.left_since S.tells LIMITS.ids
+    ensures ran { result ≢ 1 → RanOpened (IsUnopened LIMITS.epochs (S.tells site.old) (S.tells site.new)) S.moment S.left_since S.tells LIMITS.ids
         LIMITS.input (R.rest source.old) (R.rest source.new) site.old site.new result }
     ensures served { result ≡ 0 → IsHonest (S.tells site.old) → (input : List ℕ) → R.rest source.old ≡ Some input →
         (R.rest source.new ≡ Some []) × ServesOpened LIMITS.ids input (account (S.tells site.old)) (account (S.tells site.new)) }

@@ -7,7 +7,7 @@ ghost use Rattle.pg_recover.specs.Broker.{Durable};
 ghost use Rattle.pg_recover.specs.Denotation.{Denotes};
 ghost use Rattle.pg_recover.specs.Recovered.{AreIllFormed, HasNoEpoch, KeepsFiles};
 ghost use Rattle.pg_recover.specs.WellFormed.{WellFormed};
-ghost use Rattle.pg_run.specs.Ran.{RanOpened, ServesOpened, status_of, status_of_stop, CountsStop, CountsStatus, IsDamagedStop, IsStatus, IsAnyBut, IsSpared};
+ghost use Rattle.pg_run.specs.Ran.{IsUnopened, RanOpened, ServesOpened, status_of, status_of_stop, CountsStop, CountsStatus, IsDamagedStop, IsStatus, IsAnyBut, IsSpared};
 
 use crate::run::{Stop, answer_lines};
 use pg_disk::{Fault, Site, SiteFault, Source};
@@ -19,7 +19,7 @@ use std::alloc::Global;
 /// The command `run`: opens the broker in the state that the files denote, executes the lines of the source in order, and
 /// tells each reply once its line's change is on the disk. It answers the program's status (`docs/FORMATS.md`).
 pub fn serve<S: Site, R: Source>(alloc: Global, source: &mut R, site: &mut S, limits: &Limits) -> u8
-    ensures ran { RanOpened (HasNoEpoch limits.now.epochs (account (S.tells site.old)).files) S.moment S.left_since S.tells limits.now.ids
+    ensures ran { RanOpened (IsUnopened limits.now.epochs (S.tells site.old) (S.tells site.new)) S.moment S.left_since S.tells limits.now.ids
         limits.now.input (R.rest source.old) (R.rest source.new) site.old site.new result }
     ensures served { result ≡ 0 → IsHonest (S.tells site.old) → (input : List ℕ) → R.rest source.old ≡ Some input →
         (R.rest source.new ≡ Some []) × ServesOpened limits.now.ids input (account (S.tells site.old)) (account (S.tells site.new)) }
@@ -44,7 +44,7 @@ fn run<S: Site, R: Source>(
     site: &mut S,
     limits: &Limits,
 ) -> Result<(), Stop>
-    ensures ran { RanOpened (HasNoEpoch limits.now.epochs (account (S.tells site.old)).files) S.moment S.left_since S.tells limits.now.ids
+    ensures ran { RanOpened (IsUnopened limits.now.epochs (S.tells site.old) (S.tells site.new)) S.moment S.left_since S.tells limits.now.ids
         limits.now.input (R.rest source.old) (R.rest source.new) site.old site.new (status_of result) }
     ensures damaged { IfErr result (λ stop. IsDamagedStop stop → AreIllFormed (S.tells site.old) × Changes (S.tells site.old) (S.tells site.new) KeepsFiles) }
     ensures denoted { IsAnyBut (2 ∷ 3 ∷ 6 ∷ []) (status_of result) → IsHonest (S.tells site.old) → (durable : Durable) × Denotes (as_read (account (S.tells site.old)).files) durable }

@@ -115,36 +115,37 @@ fn a_run_over_what_a_crash_left_has_the_messages_that_count(rt: HostRuntime) -> 
     Ok(())
 }
 
+/// What is there, the status, and what is left.
+const CASES: [(Contents, u8, Contents); 13] = [
+    (&[(JOURNAL, b"")], 0, &[(JOURNAL, ONCE)]),
+    (&[(JOURNAL, b"\x01")], 0, &[(JOURNAL, ONCE)]),
+    (&[(JOURNAL, b"\x07")], 0, &[(JOURNAL, ONCE)]),
+    (&[(JOURNAL, ONCE_AND_7)], 0, &[(JOURNAL, TWICE)]),
+    // The last generation that has a batch goes on, and the others go.
+    (&[(JOURNAL, ONCE), (SECOND, b"\0")], 0, &[(JOURNAL, TWICE)]),
+    (&[(JOURNAL, TWICE), (SECOND, ONCE)], 0, &[(SECOND, TWICE)]),
+    (&[(SECOND, b"\0")], 0, &[(SECOND, ONCE)]),
+    // Damage, and nothing is changed.
+    (
+        &[(JOURNAL, ONCE), (OTHER, ONCE)],
+        2,
+        &[(JOURNAL, ONCE), (OTHER, ONCE)],
+    ),
+    (&[(JOURNAL, SAME_EPOCH)], 2, &[(JOURNAL, SAME_EPOCH)]),
+    (&[(JOURNAL, NO_QUEUE)], 2, &[(JOURNAL, NO_QUEUE)]),
+    (&[(JOURNAL, NO_ENTRY)], 2, &[(JOURNAL, NO_ENTRY)]),
+    (&[(JOURNAL, CUT)], 2, &[(JOURNAL, CUT)]),
+    (
+        &[(JOURNAL, ONCE), (PAGE, b"\0")],
+        2,
+        &[(JOURNAL, ONCE), (PAGE, b"\0")],
+    ),
+];
+
 #[test]
 fn files_are_opened_or_refused(rt: HostRuntime) -> Result<(), Fail> {
-    // What is there, the status, and what is left.
-    let table: [(Contents, u8, Contents); 13] = [
-        (&[(JOURNAL, b"")], 0, &[(JOURNAL, ONCE)]),
-        (&[(JOURNAL, b"\x01")], 0, &[(JOURNAL, ONCE)]),
-        (&[(JOURNAL, b"\x07")], 0, &[(JOURNAL, ONCE)]),
-        (&[(JOURNAL, ONCE_AND_7)], 0, &[(JOURNAL, TWICE)]),
-        // The last generation that has a batch goes on, and the others go.
-        (&[(JOURNAL, ONCE), (SECOND, b"\0")], 0, &[(JOURNAL, TWICE)]),
-        (&[(JOURNAL, TWICE), (SECOND, ONCE)], 0, &[(SECOND, TWICE)]),
-        (&[(SECOND, b"\0")], 0, &[(SECOND, ONCE)]),
-        // Damage, and nothing is changed.
-        (
-            &[(JOURNAL, ONCE), (OTHER, ONCE)],
-            2,
-            &[(JOURNAL, ONCE), (OTHER, ONCE)],
-        ),
-        (&[(JOURNAL, SAME_EPOCH)], 2, &[(JOURNAL, SAME_EPOCH)]),
-        (&[(JOURNAL, NO_QUEUE)], 2, &[(JOURNAL, NO_QUEUE)]),
-        (&[(JOURNAL, NO_ENTRY)], 2, &[(JOURNAL, NO_ENTRY)]),
-        (&[(JOURNAL, CUT)], 2, &[(JOURNAL, CUT)]),
-        (
-            &[(JOURNAL, ONCE), (PAGE, b"\0")],
-            2,
-            &[(JOURNAL, ONCE), (PAGE, b"\0")],
-        ),
-    ];
     let mut number = 0u64;
-    for (files, status, after) in table {
+    for (files, status, after) in CASES {
         number = number.saturating_add(1);
         let mut site = site_of(rt.alloc(), files)?;
         assert_eq!(rt; run(rt.alloc(), &mut site, b"")?, status, "case {number}");
