@@ -1,4 +1,5 @@
 pub mod Cuts
+pub mod Damaging
 pub mod Finding
 pub mod Growing
 pub mod Law

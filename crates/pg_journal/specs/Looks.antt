@@ -14,7 +14,7 @@ use Rattle.pg_gate.specs.Gated.{Batches, HasBatches, HasNone}
 use Rattle.pg_gate.specs.Spans.{IsCut, StaysOrMends, spans_of}
 use Rattle.pg_gate.specs.declared.spans.Span.{Span}
 use Rattle.pg_journal.specs.declared.journal.Journal.{Journal}
-use Rattle.pg_journal.specs.Generations.{as_read, as_left, first_generation, is_generation, GoesOn, IsAscending, JournalOf}
+use Rattle.pg_journal.specs.Generations.{as_read, as_left, bytes_of, first_generation, is_generation, GoesOn, IsAscending, JournalOf}
 use Rattle.pg_journal.specs.Stands.{AreQuiet, Stands, StaysOrSettles, name_of}
 
 -- how many bytes a file has as read
@@ -81,6 +81,19 @@ IsCutGeneration tells Failed = Unit {0}
 IsCutGeneration tells (Damaged damage) = (damage.file.kind ≡ OfJournal) × (damage.rule ≡ Cut) × (IsHonest tells → IsCutAt (account tells).files damage.file damage.at)
 IsCutGeneration tells Spent = ⊥
 IsCutGeneration tells Memory = Unit {0}
+
+-- Where this generation is damaged, its bytes are as they were. Each other one is as it was, or it had no batch and is at rest without one. None was made.
+pub record KeepsDamaged (damaged : FileId) (old now : FinMap file_cmp FileState) : Type 0 where
+  pub bytes : bytes_of (get now damaged) ≡ bytes_of (get old damaged)
+  pub others : (file : FileId) → file.kind ≡ OfJournal → file ≢ damaged → StaysOrSettles (get old file) (get now file)
+  pub made : (file : FileId) → file.kind ≡ OfJournal → get old file ≡ None → get now file ≡ None
+
+-- damage leaves that of the generations, and no limit is met
+abbrev pub KeepsAtDamage : Option Account → Option Account → Fault → Type 0
+KeepsAtDamage old new Failed = Unit {0}
+KeepsAtDamage old new (Damaged damage) = IsHonest old → KeepsDamaged damage.file (account old).files (account new).files
+KeepsAtDamage old new Spent = ⊥
+KeepsAtDamage old new Memory = Unit {0}
 
 -- what was found: what the journal says, with the places of its payloads, its file, and what became of the other generations
 pub record IsFound (journal : Journal) (spans : List Span) (old now : FinMap file_cmp FileState) : Type 0 where

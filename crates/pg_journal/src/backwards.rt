@@ -7,7 +7,7 @@ ghost use Rattle.pg_disk.specs.Image.{Leaves};
 ghost use Rattle.pg_disk.specs.Moments.{Within};
 ghost use Rattle.pg_gate.specs.Spans.{payload_bytes, spans_of};
 ghost use Rattle.pg_journal.specs.Generations.{as_read, HasNoGeneration, HasNoneThere, IsGeneration};
-ghost use Rattle.pg_journal.specs.Looks.{AreGenerations, IsCutGeneration, IsFound, LeavesJournal, ReadsGenerations, TakesWithin};
+ghost use Rattle.pg_journal.specs.Looks.{AreGenerations, IsCutGeneration, IsFound, KeepsAtDamage, LeavesJournal, ReadsGenerations, TakesWithin};
 
 use crate::Journal;
 use pg_disk::{Disk, Fault, FileId, Kind};
@@ -33,6 +33,7 @@ pub(crate) fn scan_back<D: Disk>(
         TakesWithin 0 (account (D.tells disk.old)) (account (D.tells disk.new))) }
     ensures any_moment { Within D.moment D.left_since disk.old disk.new (LeavesJournal (D.tells disk.old)) }
     ensures damaged { IfErr result (IsCutGeneration (D.tells disk.old)) }
+    ensures kept { IfErr result (KeepsAtDamage (D.tells disk.old) (D.tells disk.new)) }
     ensures cause { CountsFault (D.faults disk.old) (D.faults disk.new) result }
 {
     let mut last = None;

@@ -9,7 +9,7 @@ ghost use Rattle.pg_disk.specs.Moments.{Within};
 ghost use Rattle.pg_gate.specs.Gated.{IsFailedOrSpent};
 ghost use Rattle.pg_gate.specs.Spans.{payload_bytes, spans_of};
 ghost use Rattle.pg_journal.specs.Generations.{as_read, GoesOn, HasNoGeneration, IsGeneration, JournalOf};
-ghost use Rattle.pg_journal.specs.Looks.{IsCutGeneration, LeavesJournal, LeavesOldOrNew, ReadsGenerations, TakesWithin};
+ghost use Rattle.pg_journal.specs.Looks.{IsCutGeneration, KeepsAtDamage, LeavesJournal, LeavesOldOrNew, ReadsGenerations, TakesWithin};
 ghost use Rattle.pg_journal.specs.Stands.{Stands, StaysOrSettles, counted, name_of};
 
 use crate::backwards::{peek_back, scan_back};
@@ -57,6 +57,7 @@ impl Journal {
         ensures any_moment { Within D.moment D.left_since disk.old disk.new (LeavesJournal (D.tells disk.old)) }
 
         ensures damaged { IfErr result (IsCutGeneration (D.tells disk.old)) }
+        ensures kept { IfErr result (KeepsAtDamage (D.tells disk.old) (D.tells disk.new)) }
         ensures cause { CountsFault (D.faults disk.old) (D.faults disk.new) result }
     {
         let generations = generations(alloc, disk)?;

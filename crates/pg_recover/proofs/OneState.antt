@@ -20,6 +20,10 @@ folds_of contents batches d says folds =
 pub state_is : (contents : Contents) (batches : List (List ℕ)) (d e : Durable) → JournalOf contents batches → FoldsFrom fresh batches d → FoldsTo contents e → e ≡ d
 state_is contents batches d e says folds other = one_end fresh e d batches (folds_of contents batches e says other) folds
 
+-- two states that are given are one
+pub one_folded : (contents : Contents) (d e : Durable) → FoldsTo contents d → FoldsTo contents e → d ≡ e
+one_folded contents d e folds other = state_is contents other.batches e d other.says (folds_of contents other.batches e other.says other) folds
+
 -- or none
 pub none_given : (contents : Contents) (batches : List (List ℕ)) (e : Durable) → JournalOf contents batches → FoldsNowhere fresh batches → FoldsTo contents e → ⊥
 none_given contents batches e says none other = none e (folds_of contents batches e says other)

@@ -16,12 +16,15 @@ use Rattle.pg_gate.proofs.Reading.{reads_leave}
 use Rattle.pg_fold.specs.declared.durable.Durable.{Durable}
 use Rattle.pg_journal.specs.Generations.{Contents, as_read, bytes_of, JournalOf}
 use Rattle.pg_journal.specs.Stands.{IsQuietAt}
-use Rattle.pg_journal.proofs.Saying.{left_keeps, quiet_says}
+use Rattle.pg_journal.proofs.Saying.{left_keeps, quiet_says, stands_reads}
 use Rattle.pg_recover.specs.declared.opening.Parts.{Parts}
-use Rattle.pg_recover.specs.Denotation.{FoldsTo, raised}
+use Rattle.pg_recover.specs.Broker.{next_epoch}
+use Rattle.pg_recover.specs.Broker.{Durable as BrokerDurable}
+use Rattle.pg_recover.specs.Denotation.{Denotes, FoldsTo, durable_part, raised}
 use Rattle.pg_recover.specs.Recovered.{AllQuiet, AreKept, BeganQuiet, HasNoEpoch, IsIllFormed, IsSpentAt, KeepsFiles, LeavesOpened, OpensFiles, Owns}
 use Rattle.pg_recover.specs.Syncing.{NarrowsAt, SyncsFiles}
 use Rattle.pg_recover.specs.WellFormed.{WellFormed}
+use Rattle.pg_recover.proofs.OneState.{one_folded}
 use Rattle.pg_recover.proofs.OrderLemmas.{all_quiet, all_there, same_keys}
 
 -- where nothing is pending, what a crash leaves gives the same state
@@ -207,6 +210,27 @@ module _ (old mid now : Option Account) (same : Changes old mid (Reads 0)) (sync
           → IfOk r (λ parts. IsHonest old → (d : Durable) × FoldsTo (as_read (account old).files) d × (parts.durable ≡ raised d) × Owns parts.journal parts.durable (account new).files × AllQuiet (account new).files)
       by (Ok parts) is = recovered_first old mid now same synced new parts is
       by (Err e) is = tt
+
+-- what was denoted is denoted in the next epoch
+next_denoted : (old new : Option Account) (parts : Parts) (d : Durable) → FoldsTo (as_read (account old).files) d → parts.durable ≡ raised d → Owns parts.journal parts.durable (account new).files
+    → (durable : BrokerDurable) → Denotes (as_read (account old).files) durable → Denotes (as_read (account new).files) (next_epoch durable)
+next_denoted old new parts d folds raises owns durable denotes = record {
+  state = raised d;
+  folds = record {
+    batches = owns.batches;
+    entries = owns.entries;
+    says = stands_reads parts.journal owns.batches (account new).files owns.stands;
+    spelled = owns.spelled;
+    folded = owns.folded ∙ ap Some raises;
+  };
+  is = ap next_epoch (denotes.is ∙ ap durable_part (one_folded (as_read (account old).files) denotes.state d denotes.folds folds));
+}
+
+pub all_denoted : (old new : Option Account) (result : Result Parts Fault)
+    → IfOk result (λ parts. IsHonest old → (d : Durable) × FoldsTo (as_read (account old).files) d × (parts.durable ≡ raised d) × Owns parts.journal parts.durable (account new).files × AllQuiet (account new).files)
+    → OnOk result (IsHonest old → (durable : BrokerDurable) → Denotes (as_read (account old).files) durable → Denotes (as_read (account new).files) (next_epoch durable))
+all_denoted old new (Ok parts) recovered = λ honest durable denotes. let is = recovered honest in next_denoted old new parts is.0 is.1 is.2 is.3 durable denotes
+all_denoted old new (Err e) recovered = tt
 
 -- the moments, seen from the start
 module _ {D : Type 0} (moment : D → ℕ) (left_since : D → ℕ → Files → List ℕ → Type 0) (tells : D → Option Account) (old mid : D) (listing : Within moment left_since old mid (Leaves (tells old))) where

@@ -6,7 +6,8 @@ ghost use Rattle.pg_disk.specs.Calls.{Changes};
 ghost use Rattle.pg_disk.specs.Counts.{CountsFault};
 ghost use Rattle.pg_disk.specs.Moments.{Within, WithinFrom};
 ghost use Rattle.pg_journal.specs.Generations.{as_read};
-ghost use Rattle.pg_recover.specs.Denotation.{FoldsTo, raised};
+ghost use Rattle.pg_recover.specs.Broker.{next_epoch};
+ghost use Rattle.pg_recover.specs.Denotation.{Denotes, FoldsTo, raised};
 ghost use Rattle.pg_recover.specs.Recovered.{AllQuiet, AreKept, BeganQuiet, IsBegun, HasNoEpoch, IsEpoch, IsIllFormed, IsSpentAt, LeavesOpened, OpensFiles, Owns};
 ghost use Rattle.pg_recover.specs.WellFormed.{AreRoomy, IsGapless, IsNamed, IsThere};
 
@@ -70,6 +71,10 @@ fn open_synced<D: Disk>(
 pub fn recover<D: Disk>(alloc: Global, disk: &mut D, limits: &Limits) -> Result<Parts, Fault>
     ensures recovered { IfOk result (λ parts. IsHonest (D.tells disk.old) → (d : _) × FoldsTo (as_read (account (D.tells disk.old)).files) d
         × (parts.durable ≡ raised d) × Owns parts.journal parts.durable (account (D.tells disk.new)).files × AllQuiet (account (D.tells disk.new)).files) }
+    // What the files denoted is denoted in the next epoch.
+    ensures denotes { OnOk result (IsHonest (D.tells disk.old) → (durable : _) →
+        Denotes (as_read (account (D.tells disk.old)).files) durable →
+        Denotes (as_read (account (D.tells disk.new)).files) (next_epoch durable)) }
     ensures begun { IfOk result (λ parts. IsBegun parts.durable) }
     ensures roomy { IfOk result (λ parts. AreRoomy parts.durable) }
     ensures epoch { IfOk result (λ parts. IsEpoch limits.now.epochs parts.durable.epoch) }

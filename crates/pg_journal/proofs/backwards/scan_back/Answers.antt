@@ -6,6 +6,7 @@ use Rattle.pg_disk.specs.declared.file_id.FileId.{FileId}
 use Rattle.pg_disk.specs.declared.file_id.Kind.TheVariants.{Journal as OfJournal}
 use Rattle.pg_disk.specs.Account.{account}
 use Rattle.pg_journal.proofs.Cuts.{cut_generation}
+use Rattle.pg_journal.proofs.Damaging.{scan_kept}
 use Rattle.pg_journal.proofs.Leaving.{no_change}
 use Rattle.pg_journal.proofs.Peeking.{last_kind}
 use Rattle.pg_journal.proofs.Scanned.{IsScannedTo, none_scanned, none_left, all_scanned}
@@ -51,6 +52,13 @@ returns-in_err-rest-clause-damaged g c =
     (cut_before g.D.Disk.moment g.D.Disk.left_since g.D.Disk.tells c.args.disk.now c.generations.disk c.pop.new.self.items c.in-Some.file c.generations.last kind c.generations.invariant.stays
     (λ honest. subst (λ l. IsScannedTo l c.generations.last (account (g.D.Disk.tells c.args.disk.now)).files (account (g.D.Disk.tells c.generations.disk)).files) c.in-Some.ensures.items (c.generations.invariant.so_far honest)))
     c.in_err-rest.ensures.only c.in_err-rest.ensures.damaged)
+
+pub returns-in_err-rest-clause-kept : goal.returns-in_err-rest-clause-kept
+returns-in_err-rest-clause-kept g c =
+    let is = err_from_is_err_and c.from_residual.result c.from_residual.ensures.1 in
+    rw (is.1, is.2) (scan_kept (g.D.Disk.tells c.args.disk.now) (g.D.Disk.tells c.generations.disk) (g.D.Disk.tells c.scan.new.disk) c.pop.new.self.items c.in-Some.file c.generations.last c.generations.invariant.stays
+    (λ honest. subst (λ l. IsScannedTo l c.generations.last (account (g.D.Disk.tells c.args.disk.now)).files (account (g.D.Disk.tells c.generations.disk)).files) c.in-Some.ensures.items (c.generations.invariant.so_far honest))
+    c.scan.ensures.stays c.in_err-rest.field-0.0 c.in_err-rest.ensures.only c.in_err-rest.ensures.damaged)
 
 pub returns-then-not-is_empty-clause-found : goal.returns-then-not-is_empty-clause-found
 returns-then-not-is_empty-clause-found g c =

@@ -8,7 +8,7 @@ use Rattle.pg_gate.proofs.Reading.{one_read}
 use Rattle.pg_journal.specs.Stands.{IsQuietAt}
 use Rattle.pg_recover.specs.WellFormed.{IsGapless, IsNamed, IsThere}
 use Rattle.pg_recover.proofs.OpenLemmas.{opens_then}
-use Rattle.pg_recover.proofs.RecoverLemmas.{all_ill, all_kept, all_moments, all_next, all_recovered, all_seen, all_spent, can_sync, listed_now, listing_moments, moments_once_synced, on_ok, quiet_now, sync_moments, sync_opens}
+use Rattle.pg_recover.proofs.RecoverLemmas.{all_denoted, all_ill, all_kept, all_moments, all_next, all_recovered, all_seen, all_spent, can_sync, listed_now, listing_moments, moments_once_synced, on_ok, quiet_now, sync_moments, sync_opens}
 use Rattle.pg_recover.proofs.opening.recover.Goals as goal
 
 pub sync_all-requires : goal.sync_all-requires
@@ -38,6 +38,11 @@ returns-in_err-sync_all-clause-any_moment g c =
 pub returns-clause-recovered : goal.returns-clause-recovered
 returns-clause-recovered g c =
     all_recovered (g.D.Disk.tells c.args.disk.now) (g.D.Disk.tells c.list.new.self) (g.D.Disk.tells c.sync_all.new.disk) c.list.ensures.same c.sync_all.ensures.stays c.open_synced.result (g.D.Disk.tells c.open_synced.new.disk) c.open_synced.ensures.recovered
+
+pub returns-clause-denotes : goal.returns-clause-denotes
+returns-clause-denotes g c =
+    all_denoted (g.D.Disk.tells c.args.disk.now) (g.D.Disk.tells c.open_synced.new.disk) c.open_synced.result
+    (all_recovered (g.D.Disk.tells c.args.disk.now) (g.D.Disk.tells c.list.new.self) (g.D.Disk.tells c.sync_all.new.disk) c.list.ensures.same c.sync_all.ensures.stays c.open_synced.result (g.D.Disk.tells c.open_synced.new.disk) c.open_synced.ensures.recovered)
 
 pub returns-clause-stays : goal.returns-clause-stays
 returns-clause-stays g c =
