@@ -12,3 +12,4 @@ pub mod RecoverLemmas
 pub mod RemoveLemmas
 pub mod RoomLemmas
 pub mod SyncLemmas
+pub mod WellLemmas

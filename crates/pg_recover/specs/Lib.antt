@@ -7,5 +7,6 @@ pub mod Recovered
 pub mod Raising
 pub mod Removing
 pub mod Said
+pub mod Staying
 pub mod Syncing
 pub mod WellFormed

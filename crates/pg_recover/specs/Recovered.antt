@@ -40,11 +40,13 @@ pub record Owns (journal : Journal) (durable : Durable) (files : FinMap file_cmp
   pub folded : fold fresh entries ≡ Some durable
   pub alone : (file : FileId) → file.kind ≡ OfJournal → file ≢ name_of journal → get files file ≡ None
 
--- Nothing was told, and where that is asked, the state that the journal gives is that from before, or that in the next epoch.
+-- Nothing was told, and where that is asked, the state that the journal gives is that from before, or that in the next epoch, and files that were well
+-- formed are.
 pub record LeavesOpened (asked : Type 0) (tells : Option Account) (image : Files) (told : List ℕ) : Type 0 where
   pub honest : IsHonest tells
   pub nothing : told ≡ (account tells).told
   pub denotes : asked → (d : Durable) → FoldsTo (as_read (account tells).files) d → FoldsTo (as_left image) d ⊎ FoldsTo (as_left image) (raised d)
+  pub well : asked → WellFormed (as_read (account tells).files) → WellFormed (as_left image)
 
 -- nothing is pending at the beginning
 abbrev pub BeganQuiet : Option Account → Type 0

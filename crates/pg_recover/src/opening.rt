@@ -9,7 +9,7 @@ ghost use Rattle.pg_journal.specs.Generations.{as_read};
 ghost use Rattle.pg_recover.specs.Broker.{next_epoch};
 ghost use Rattle.pg_recover.specs.Denotation.{Denotes, FoldsTo, raised};
 ghost use Rattle.pg_recover.specs.Recovered.{AllQuiet, AreKept, BeganQuiet, IsBegun, HasNoEpoch, IsEpoch, IsIllFormed, IsSpentAt, LeavesOpened, OpensFiles, Owns};
-ghost use Rattle.pg_recover.specs.WellFormed.{AreRoomy, IsGapless, IsNamed, IsThere};
+ghost use Rattle.pg_recover.specs.WellFormed.{AreRoomy, IsGapless, IsNamed, IsThere, WellFormed};
 
 use crate::epochs::{begin_epoch, check_state};
 use crate::reading::read_journal;
@@ -44,6 +44,7 @@ fn open_synced<D: Disk>(
     ensures named { IfOk result (λ parts. IsHonest (D.tells disk.old) → (file : _) → IsThere (as_read (account (D.tells disk.old)).files) file →
         IsNamed parts.durable.addresses file) }
     ensures gapless { IfOk result (λ parts. IsHonest (D.tells disk.old) → All (IsGapless (as_read (account (D.tells disk.old)).files)) parts.durable.addresses) }
+    ensures well { OnOk result (IsHonest (D.tells disk.old) → WellFormed (as_read (account (D.tells disk.old)).files) → WellFormed (as_read (account (D.tells disk.new)).files)) }
     ensures stays { Changes (D.tells disk.old) (D.tells disk.new) OpensFiles }
     ensures kept { IfErr result (AreKept (D.tells disk.old) (D.tells disk.new)) }
     ensures any_moment { Within D.moment D.left_since disk.old disk.new (LeavesOpened (Unit {0}) (D.tells disk.old)) }
@@ -81,9 +82,10 @@ pub fn recover<D: Disk>(alloc: Global, disk: &mut D, limits: &Limits) -> Result<
     ensures named { IfOk result (λ parts. IsHonest (D.tells disk.old) → (file : _) → IsThere (as_read (account (D.tells disk.old)).files) file →
         IsNamed parts.durable.addresses file) }
     ensures gapless { IfOk result (λ parts. IsHonest (D.tells disk.old) → All (IsGapless (as_read (account (D.tells disk.old)).files)) parts.durable.addresses) }
+    ensures well { OnOk result (IsHonest (D.tells disk.old) → WellFormed (as_read (account (D.tells disk.old)).files) → WellFormed (as_read (account (D.tells disk.new)).files)) }
     ensures stays { Changes (D.tells disk.old) (D.tells disk.new) OpensFiles }
     ensures kept { IfErr result (AreKept (D.tells disk.old) (D.tells disk.new)) }
-    // A crash at any moment leaves the state from before, or that in the next epoch, where nothing was pending.
+    // A crash at any moment leaves the state from before, or that in the next epoch, where nothing was pending. Well formed files stay so.
     ensures any_moment { Within D.moment D.left_since disk.old disk.new (LeavesOpened (BeganQuiet (D.tells disk.old)) (D.tells disk.old)) }
     // Where something was, that is so from some moment on.
     ensures once_quiet { OnOk result (WithinFrom D.moment D.left_since disk.old disk.new (LeavesOpened (Unit {0}) (D.tells disk.old))) }
