@@ -26,13 +26,14 @@ use Rattle.pg_journal.proofs.Saying.{found_quiet, stands_says}
 use Rattle.pg_recover.specs.Folding.{FoldsFrom, FoldsNowhere, IsDamageOnly}
 use Rattle.pg_recover.specs.Places.{AreInside, payloads_at}
 use Rattle.pg_recover.specs.Recovered.{AllQuiet, AreIllFormed}
-use Rattle.pg_recover.specs.Said.{IsReadFrom, LeavesSaid}
+use Rattle.pg_recover.specs.Said.{IsReadFrom, KeepsWhole, LeavesSaid}
 use Rattle.pg_recover.proofs.OneState.{none_given}
 use Rattle.pg_recover.proofs.PlaceLemmas.{placed, placed_inside}
+use Rattle.pg_recover.proofs.WellLemmas.{finding_keeps, found_keeps, image_as_read}
 
 -- what a crash leaves while the journal is found, where nothing is pending
 pub finding_leaves : (old : Option Account) → (IsHonest old → AllQuiet (account old).files) → (c : Files) (b : List ℕ) → LeavesJournal old c b → LeavesSaid old c b
-finding_leaves old quiet c b left = record { honest = left.honest; nothing = left.nothing; says = left.says (λ file kind. quiet left.honest file) }
+finding_leaves old quiet c b left = record { honest = left.honest; nothing = left.nothing; says = left.says (λ file kind. quiet left.honest file); keeps = finding_keeps old (quiet left.honest) c b left }
 
 -- the generations were read, and then bytes of files
 pub then_reads : (old mid new : Option Account) (n : ℕ) → Changes old mid ReadsGenerations → Changes mid new (Reads n) → Changes old new ReadsGenerations
@@ -88,18 +89,6 @@ module _ (old mid : Option Account) (stays : Changes old mid ReadsGenerations) (
       let held = held_in journal is.0 (account mid).files is.2 in
       (held.0, held.1)
 
-  -- what a crash leaves once it is found
-  pub found_leaves : (c : Files) (b : List ℕ) → Leaves mid c b → LeavesSaid old c b
-  found_leaves c b left =
-      let honest = stays.back left.honest in
-      let is = found honest in
-      record {
-        honest = honest;
-        nothing = left.told ∙ (stays.step honest).told;
-        says = λ batches says. subst (JournalOf (as_left c)) (journal_unique (as_read (account old).files) is.0 batches is.1 says)
-            (stands_says journal is.0 (account mid).files is.2 c (left.image (name_of journal)) (λ file kind other. inl (left.image file)));
-      }
-
   -- the payloads are those of the batches
   payloads_are : (is : IsFoundIn journal spans old mid) (s : FileState) → get (account mid).files (name_of journal) ≡ Some s → AreInside (length s.bytes) spans × (payloads_at s.bytes spans ≡ is.0)
   payloads_are is s there =
@@ -133,6 +122,22 @@ module _ (old mid : Option Account) (stays : Changes old mid ReadsGenerations) (
         ⊎_elim (λ kind. found_quiet journal is.0 (account old).files (account mid).files (λ f k. quiet honest f) is.2 (others honest) file kind)
         (λ kind. subst IsQuietAt (sym ((stays.step honest).others file kind)) (quiet honest file)) (generation_or_not file.kind)
 
+    found_whole : (honest : IsHonest old) → KeepsWhole (as_read (account old).files) (as_read (account mid).files)
+    found_whole honest = found_keeps (account old) (account mid) (stays.step honest) journal (found honest).0 (found honest).2 (others honest)
+
+    -- what a crash leaves once it is found
+    pub found_leaves : (c : Files) (b : List ℕ) → Leaves mid c b → LeavesSaid old c b
+    found_leaves c b left =
+        let honest = stays.back left.honest in
+        let is = found honest in
+        record {
+          honest = honest;
+          nothing = left.told ∙ (stays.step honest).told;
+          says = λ batches says. subst (JournalOf (as_left c)) (journal_unique (as_read (account old).files) is.0 batches is.1 says)
+              (stands_says journal is.0 (account mid).files is.2 c (left.image (name_of journal)) (λ file kind other. inl (left.image file)));
+          keeps = subst (KeepsWhole (as_read (account old).files)) (sym (image_as_read (account mid).files c (found_still honest) left.image)) (found_whole honest);
+        }
+
     -- what was read
     pub read_from : (new : Option Account) (n : ℕ) → Changes mid new (Reads n) → (d : Durable) → AsRead (name_of journal) mid (λ bytes. AreInside (length bytes) spans → FoldsFrom fresh (payloads_at bytes spans) d)
         → IsHonest old → IsReadFrom journal d (account old).files (account new).files
@@ -146,6 +151,7 @@ module _ (old mid : Option Account) (stays : Changes old mid ReadsGenerations) (
           folds = found_folds d folds honest;
           others = λ file kind other. subst (λ m. StaysOrSettles (get (account old).files file) (get m file)) (sym same) (others honest file kind other);
           quiet = subst AllQuiet (sym same) (found_still honest);
+          keeps = subst (λ m. KeepsWhole (as_read (account old).files) (as_read m)) (sym same) (found_whole honest);
         }
 
 -- the same under the names that the code has

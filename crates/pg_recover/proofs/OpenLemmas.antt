@@ -16,7 +16,7 @@ use Rattle.pg_gate.proofs.Unique.{stands_length}
 use Rattle.pg_fold.specs.declared.durable.Durable.{Durable}
 use Rattle.pg_fold.specs.Sound.{IsSound}
 use Rattle.pg_journal.specs.declared.journal.Journal.{Journal}
-use Rattle.pg_journal.specs.Generations.{as_read, as_left, bytes_of, first_generation}
+use Rattle.pg_journal.specs.Generations.{Contents, as_read, as_left, bytes_of, first_generation, JournalOf}
 use Rattle.pg_journal.specs.Looks.{ReadsGenerations}
 use Rattle.pg_journal.specs.Stands.{StaysOrSettles, counted, name_of}
 use Rattle.pg_journal.proofs.Law.{journal_unique}
@@ -31,13 +31,19 @@ use Rattle.pg_recover.specs.Said.{IsReadFrom, LeavesSaid}
 use Rattle.pg_recover.specs.WellFormed.{AreRoomy, IsGapless, IsNamed, IsThere}
 use Rattle.pg_recover.proofs.OneState.{folds_to, state_is}
 use Rattle.pg_recover.proofs.OrderLemmas.{all_there, ascend_apart, listing_ascends, listing_shows, shown_gapless, shown_named, there_listed}
+use Rattle.pg_recover.proofs.WellLemmas.{keeps_then, well_still}
+
+-- where the journal says what it said the state is the same
+said_folds : (old new : Contents) (d : Durable) → ((batches : List (List ℕ)) → JournalOf old batches → JournalOf new batches) → FoldsTo old d → FoldsTo new d
+said_folds old new d says folds = record { batches = folds.batches; entries = folds.entries; says = says folds.batches folds.says; spelled = folds.spelled; folded = folds.folded }
 
 -- while the journal is read
 pub said_leaves : (old : Option Account) (c : Files) (b : List ℕ) → LeavesSaid old c b → LeavesOpened (Unit {0}) old c b
 said_leaves old c b left = record {
   honest = left.honest;
   nothing = left.nothing;
-  denotes = λ _ d folds. inl (record { batches = folds.batches; entries = folds.entries; says = left.says folds.batches folds.says; spelled = folds.spelled; folded = folds.folded });
+  denotes = λ _ d folds. inl (said_folds (as_read (account old).files) (as_left c) d left.says folds);
+  well = λ _ well. well_still (as_read (account old).files) (as_left c) left.keeps well (inl (said_folds (as_read (account old).files) (as_left c) well.state left.says well.folds));
 }
 
 -- reading writes nothing but a mend
@@ -101,6 +107,10 @@ module _ (old mid : Option Account) (stays : Changes old mid ReadsGenerations) (
         nothing = left.nothing ∙ (stays.step honest).told;
         denotes = λ _ e folds. let same = state_is (as_read (account old).files) is.batches d e is.says is.folds folds in
             subst (λ s. FoldsTo (as_left c) s ⊎ FoldsTo (as_left c) (raised s)) (sym same) (left.denotes is.batches is.stands is.folds);
+        well = λ _ well.
+            let same = state_is (as_read (account old).files) is.batches d well.state is.says is.folds well.folds in
+            well_still (as_read (account old).files) (as_left c) (keeps_then (as_read (account old).files) (as_read (account mid).files) (as_left c) is.keeps left.keeps) well
+            (subst (λ s. FoldsTo (as_left c) s ⊎ FoldsTo (as_left c) (raised s)) (sym same) (left.denotes is.batches is.stands is.folds));
       }
 
   pub read_folds : (honest : IsHonest old) → FoldsTo (as_read (account old).files) d

@@ -16,7 +16,7 @@ use Rattle.pg_gate.proofs.Reading.{reads_leave}
 use Rattle.pg_fold.specs.declared.durable.Durable.{Durable}
 use Rattle.pg_journal.specs.Generations.{Contents, as_read, bytes_of, JournalOf}
 use Rattle.pg_journal.specs.Stands.{IsQuietAt}
-use Rattle.pg_journal.proofs.Saying.{left_keeps, quiet_says, stands_reads}
+use Rattle.pg_journal.proofs.Saying.{left_keeps, quiet_says}
 use Rattle.pg_recover.specs.declared.opening.Parts.{Parts}
 use Rattle.pg_recover.specs.Broker.{next_epoch}
 use Rattle.pg_recover.specs.Broker.{Durable as BrokerDurable}
@@ -26,6 +26,7 @@ use Rattle.pg_recover.specs.Syncing.{NarrowsAt, SyncsFiles}
 use Rattle.pg_recover.specs.WellFormed.{WellFormed}
 use Rattle.pg_recover.proofs.OneState.{one_folded}
 use Rattle.pg_recover.proofs.OrderLemmas.{all_quiet, all_there, same_keys}
+use Rattle.pg_recover.proofs.WellLemmas.{image_well, owned_folds}
 
 -- where nothing is pending, what a crash leaves gives the same state
 pub quiet_leaves : (old : Option Account) (c : Files) (b : List ℕ) → Leaves old c b → LeavesOpened (BeganQuiet old) old c b
@@ -39,6 +40,7 @@ quiet_leaves old c b left = record {
     spelled = folds.spelled;
     folded = folds.folded;
   });
+  well = λ quiet well. image_well (account old).files c quiet left.image well;
 }
 
 narrows_bytes : (s t : Option FileState) → NarrowsAt s t → bytes_of t ≡ bytes_of s
@@ -84,7 +86,12 @@ module _ (old mid now : Option Account) (same : Changes old mid (Reads 0)) (sync
   pub opened_leaves : (asked : Type 0) (c : Files) (b : List ℕ) → LeavesOpened (Unit {0}) now c b → LeavesOpened asked old c b
   opened_leaves asked c b left =
       let honest = honest_before left.honest in
-      record { honest = honest; nothing = left.nothing ∙ (sync_opens.step honest).told; denotes = λ _ d folds. left.denotes tt d (subst (λ contents. FoldsTo contents d) (sym (reads_as honest)) folds) }
+      record {
+        honest = honest;
+        nothing = left.nothing ∙ (sync_opens.step honest).told;
+        denotes = λ _ d folds. left.denotes tt d (subst (λ contents. FoldsTo contents d) (sym (reads_as honest)) folds);
+        well = λ _ well. left.well tt (subst WellFormed (sym (reads_as honest)) well);
+      }
 
   pub opened_ill : (e : Fault) → IsIllFormed now e → IsIllFormed old e
   opened_ill Failed is = tt
@@ -216,13 +223,7 @@ next_denoted : (old new : Option Account) (parts : Parts) (d : Durable) → Fold
     → (durable : BrokerDurable) → Denotes (as_read (account old).files) durable → Denotes (as_read (account new).files) (next_epoch durable)
 next_denoted old new parts d folds raises owns durable denotes = record {
   state = raised d;
-  folds = record {
-    batches = owns.batches;
-    entries = owns.entries;
-    says = stands_reads parts.journal owns.batches (account new).files owns.stands;
-    spelled = owns.spelled;
-    folded = owns.folded ∙ ap Some raises;
-  };
+  folds = subst (FoldsTo (as_read (account new).files)) raises (owned_folds parts.journal parts.durable (account new).files owns);
   is = ap next_epoch (denotes.is ∙ ap durable_part (one_folded (as_read (account old).files) denotes.state d denotes.folds folds));
 }
 

@@ -9,13 +9,14 @@ use Rattle.pg_disk.specs.Files.{file_cmp, Files}
 use Rattle.pg_fold.specs.declared.durable.Durable.{Durable}
 use Rattle.pg_fold.specs.Fold.{fresh}
 use Rattle.pg_journal.specs.declared.journal.Journal.{Journal}
-use Rattle.pg_journal.specs.Generations.{as_left}
+use Rattle.pg_journal.specs.Generations.{as_read, as_left}
 use Rattle.pg_journal.specs.Stands.{Stands, counted, name_of}
 use Rattle.pg_recover.specs.Denotation.{FoldsTo, raised}
 use Rattle.pg_recover.specs.Folding.{FoldsFrom}
 use Rattle.pg_recover.specs.Listing.{AreListed}
 use Rattle.pg_recover.specs.Recovered.{AllQuiet}
 use Rattle.pg_recover.specs.Removing.{ListsOthers}
+use Rattle.pg_recover.specs.Said.{KeepsWhole}
 use Rattle.pg_recover.specs.WellFormed.{AreRoomy}
 
 -- the journal stands for batches that lead to the state, the list has the other generations, and nothing is pending
@@ -26,11 +27,12 @@ pub record IsReady (journal : Journal) (durable : Durable) (list : List FileId) 
   pub listed : ListsOthers list (name_of journal) files
   pub quiet : AllQuiet files
 
--- The journal gives the state, or the state in the next epoch.
+-- The journal gives the state, or the state in the next epoch, and no file is cut that wasn't.
 pub record LeavesRaised (journal : Journal) (durable : Durable) (tells : Option Account) (image : Files) (told : List ℕ) : Type 0 where
   pub honest : IsHonest tells
   pub nothing : told ≡ (account tells).told
   pub denotes : (batches : List (List ℕ)) → Stands journal batches (account tells).files → FoldsFrom fresh batches durable → FoldsTo (as_left image) durable ⊎ FoldsTo (as_left image) (raised durable)
+  pub keeps : KeepsWhole (as_read (account tells).files) (as_left image)
 
 -- the disk failed, or there was no memory
 abbrev pub IsFailedOrMemory : Fault → Type 0

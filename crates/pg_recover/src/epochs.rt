@@ -4,12 +4,14 @@ ghost use Rattle.pg_disk.specs.Account.{account, IsHonest};
 ghost use Rattle.pg_disk.specs.Calls.{Changes};
 ghost use Rattle.pg_disk.specs.Counts.{CountsFault};
 ghost use Rattle.pg_disk.specs.Moments.{Within};
+ghost use Rattle.pg_journal.specs.Generations.{as_read};
 ghost use Rattle.pg_journal.specs.Stands.{counted};
 ghost use Rattle.pg_recover.specs.Denotation.{raised};
 ghost use Rattle.pg_fold.specs.Sound.{IsSound};
 ghost use Rattle.pg_recover.specs.Listing.{AreListed};
 ghost use Rattle.pg_recover.specs.Raising.{IsFailedOrMemory, IsReady, IsUnfit, LeavesRaised};
 ghost use Rattle.pg_recover.specs.Recovered.{AllQuiet, OpensFiles, Owns};
+ghost use Rattle.pg_recover.specs.Said.{KeepsWhole};
 ghost use Rattle.pg_recover.specs.WellFormed.{AreRoomy};
 
 use crate::listing::listing_damage;
@@ -72,6 +74,8 @@ pub(crate) fn begin_epoch<D: Disk>(
     ensures raised { IfOk result (λ parts. parts.durable ≡ raised durable) }
     ensures owned { IfOk result (λ parts. IsHonest (D.tells disk.old) →
         Owns parts.journal parts.durable (account (D.tells disk.new)).files × AllQuiet (account (D.tells disk.new)).files) }
+    ensures keeps { OnOk result (IsHonest (D.tells disk.old) →
+        KeepsWhole (as_read (account (D.tells disk.old)).files) (as_read (account (D.tells disk.new)).files)) }
     ensures stays { Changes (D.tells disk.old) (D.tells disk.new) OpensFiles }
     ensures any_moment { Within D.moment D.left_since disk.old disk.new (LeavesRaised journal durable (D.tells disk.old)) }
     ensures only { IfErr result IsFailedOrMemory }

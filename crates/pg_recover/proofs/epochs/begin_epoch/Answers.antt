@@ -4,7 +4,7 @@ use Rattle.pg_disk.specs.Calls.{Changes}
 use Rattle.pg_disk.specs.Moments.{Within}
 use Rattle.pg_disk.proofs.Runs.{started, then_run, weaker}
 use Rattle.pg_recover.specs.Removing.{HasNoOther, LeavesOthersGone, ListsOthers, RemovesOthers}
-use Rattle.pg_recover.proofs.EpochLemmas.{adding_leaves, gone_leaves, nothing_leaves, owned, stands_still}
+use Rattle.pg_recover.proofs.EpochLemmas.{added_whole, adding_leaves, gone_leaves, nothing_leaves, owned, stands_still}
 use Rattle.pg_recover.proofs.epochs.begin_epoch.Goals as goal
 
 pub encode_batch-requires : goal.encode_batch-requires
@@ -18,43 +18,52 @@ append-requires g c = λ honest.
     let before = c.remove_others.ensures.stays.back honest in
     let ready = c.requires.ready before in (
       ready.batches,
-      stands_still c.args.durable c.in_ok-batch.batch c.in_ok-batch.ensures c.requires.next c.args.journal (g.D.Disk.tells c.args.disk.now) (g.D.Disk.tells c.remove_others.new.disk)
+      stands_still c.args.durable c.in_ok-batch.batch c.in_ok-batch.ensures c.requires.next c.args.journal (g.D.Disk.tells c.args.disk.now) c.args.files.now c.requires.ready (g.D.Disk.tells c.remove_others.new.disk)
           (subst (λ f. Changes (g.D.Disk.tells c.args.disk.now) (g.D.Disk.tells c.remove_others.new.disk) (RemovesOthers f)) c.file.ensures c.remove_others.ensures.stays) before ready.batches ready.stands,
     )
 
 pub returns-in_err-batch-clause-any_moment : goal.returns-in_err-batch-clause-any_moment
 returns-in_err-batch-clause-any_moment g c =
-    started g.D.Disk.moment g.D.Disk.left_since c.args.disk.now _ (λ d b left. nothing_leaves c.args.durable _ refl c.requires.next c.args.journal (g.D.Disk.tells c.args.disk.now) d b (g.met.D.Disk.only_now c.args.disk.now d b left))
+    started g.D.Disk.moment g.D.Disk.left_since c.args.disk.now _ (λ d b left. nothing_leaves c.args.durable _ refl c.requires.next c.args.journal (g.D.Disk.tells c.args.disk.now) c.args.files.now c.requires.ready d b (g.met.D.Disk.only_now c.args.disk.now d b left))
 
 pub returns-in_err-remove_others-clause-any_moment : goal.returns-in_err-remove_others-clause-any_moment
 returns-in_err-remove_others-clause-any_moment g c =
     weaker g.D.Disk.moment g.D.Disk.left_since c.args.disk.now c.remove_others.new.disk _ _
     (subst (λ f. Within g.D.Disk.moment g.D.Disk.left_since c.args.disk.now c.remove_others.new.disk (LeavesOthersGone f (g.D.Disk.tells c.args.disk.now))) c.file.ensures c.remove_others.ensures.any_moment)
-    (gone_leaves c.args.durable c.in_ok-batch.batch c.in_ok-batch.ensures c.requires.next c.args.journal (g.D.Disk.tells c.args.disk.now))
+    (gone_leaves c.args.durable c.in_ok-batch.batch c.in_ok-batch.ensures c.requires.next c.args.journal (g.D.Disk.tells c.args.disk.now) c.args.files.now c.requires.ready)
 
 pub returns-in_err-journal-clause-any_moment : goal.returns-in_err-journal-clause-any_moment
 returns-in_err-journal-clause-any_moment g c =
     then_run g.D.Disk.moment g.D.Disk.left_since c.args.disk.now c.remove_others.new.disk c.append.new.disk _ _
     (weaker g.D.Disk.moment g.D.Disk.left_since c.args.disk.now c.remove_others.new.disk _ _
     (subst (λ f. Within g.D.Disk.moment g.D.Disk.left_since c.args.disk.now c.remove_others.new.disk (LeavesOthersGone f (g.D.Disk.tells c.args.disk.now))) c.file.ensures c.remove_others.ensures.any_moment)
-    (gone_leaves c.args.durable c.in_ok-batch.batch c.in_ok-batch.ensures c.requires.next c.args.journal (g.D.Disk.tells c.args.disk.now)))
+    (gone_leaves c.args.durable c.in_ok-batch.batch c.in_ok-batch.ensures c.requires.next c.args.journal (g.D.Disk.tells c.args.disk.now) c.args.files.now c.requires.ready))
     c.append.ensures.any_moment
-    (adding_leaves c.args.durable c.in_ok-batch.batch c.in_ok-batch.ensures c.requires.next c.args.journal (g.D.Disk.tells c.args.disk.now) (g.D.Disk.tells c.remove_others.new.disk)
-    (subst (λ f. Changes (g.D.Disk.tells c.args.disk.now) (g.D.Disk.tells c.remove_others.new.disk) (RemovesOthers f)) c.file.ensures c.remove_others.ensures.stays))
+    (adding_leaves c.args.durable c.in_ok-batch.batch c.in_ok-batch.ensures c.requires.next c.args.journal (g.D.Disk.tells c.args.disk.now) c.args.files.now c.requires.ready (g.D.Disk.tells c.remove_others.new.disk)
+    (subst (λ f. Changes (g.D.Disk.tells c.args.disk.now) (g.D.Disk.tells c.remove_others.new.disk) (RemovesOthers f)) c.file.ensures c.remove_others.ensures.stays)
+    (subst (λ f. IsHonest (g.D.Disk.tells c.args.disk.now) → HasNoOther f (account (g.D.Disk.tells c.remove_others.new.disk)).files) c.file.ensures c.in_ok-remove_others.ensures.alone))
 
 pub returns-clause-any_moment : goal.returns-clause-any_moment
 returns-clause-any_moment g c =
     then_run g.D.Disk.moment g.D.Disk.left_since c.args.disk.now c.remove_others.new.disk c.append.new.disk _ _
     (weaker g.D.Disk.moment g.D.Disk.left_since c.args.disk.now c.remove_others.new.disk _ _
     (subst (λ f. Within g.D.Disk.moment g.D.Disk.left_since c.args.disk.now c.remove_others.new.disk (LeavesOthersGone f (g.D.Disk.tells c.args.disk.now))) c.file.ensures c.remove_others.ensures.any_moment)
-    (gone_leaves c.args.durable c.in_ok-batch.batch c.in_ok-batch.ensures c.requires.next c.args.journal (g.D.Disk.tells c.args.disk.now)))
+    (gone_leaves c.args.durable c.in_ok-batch.batch c.in_ok-batch.ensures c.requires.next c.args.journal (g.D.Disk.tells c.args.disk.now) c.args.files.now c.requires.ready))
     c.append.ensures.any_moment
-    (adding_leaves c.args.durable c.in_ok-batch.batch c.in_ok-batch.ensures c.requires.next c.args.journal (g.D.Disk.tells c.args.disk.now) (g.D.Disk.tells c.remove_others.new.disk)
-    (subst (λ f. Changes (g.D.Disk.tells c.args.disk.now) (g.D.Disk.tells c.remove_others.new.disk) (RemovesOthers f)) c.file.ensures c.remove_others.ensures.stays))
+    (adding_leaves c.args.durable c.in_ok-batch.batch c.in_ok-batch.ensures c.requires.next c.args.journal (g.D.Disk.tells c.args.disk.now) c.args.files.now c.requires.ready (g.D.Disk.tells c.remove_others.new.disk)
+    (subst (λ f. Changes (g.D.Disk.tells c.args.disk.now) (g.D.Disk.tells c.remove_others.new.disk) (RemovesOthers f)) c.file.ensures c.remove_others.ensures.stays)
+    (subst (λ f. IsHonest (g.D.Disk.tells c.args.disk.now) → HasNoOther f (account (g.D.Disk.tells c.remove_others.new.disk)).files) c.file.ensures c.in_ok-remove_others.ensures.alone))
 
 pub returns-clause-owned : goal.returns-clause-owned
 returns-clause-owned g c = λ honest.
-    owned c.args.durable c.in_ok-batch.batch c.in_ok-batch.ensures c.requires.next c.args.journal (g.D.Disk.tells c.args.disk.now) (g.D.Disk.tells c.remove_others.new.disk)
+    owned c.args.durable c.in_ok-batch.batch c.in_ok-batch.ensures c.requires.next c.args.journal (g.D.Disk.tells c.args.disk.now) c.args.files.now c.requires.ready (g.D.Disk.tells c.remove_others.new.disk)
     (subst (λ f. Changes (g.D.Disk.tells c.args.disk.now) (g.D.Disk.tells c.remove_others.new.disk) (RemovesOthers f)) c.file.ensures c.remove_others.ensures.stays)
     (subst (λ f. IsHonest (g.D.Disk.tells c.args.disk.now) → HasNoOther f (account (g.D.Disk.tells c.remove_others.new.disk)).files) c.file.ensures c.in_ok-remove_others.ensures.alone)
-    (g.D.Disk.tells c.append.new.disk) c.in_ok-journal.journal c.in_ok-journal.ensures.file c.in_ok-journal.ensures.stands c.in_ok-journal.ensures.other_files c.args.files.now honest (c.requires.ready honest)
+    (g.D.Disk.tells c.append.new.disk) c.in_ok-journal.journal c.in_ok-journal.ensures.file c.in_ok-journal.ensures.stands c.in_ok-journal.ensures.other_files honest
+
+pub returns-clause-keeps : goal.returns-clause-keeps
+returns-clause-keeps g c = λ honest.
+    added_whole c.args.durable c.in_ok-batch.batch c.in_ok-batch.ensures c.requires.next c.args.journal (g.D.Disk.tells c.args.disk.now) c.args.files.now c.requires.ready (g.D.Disk.tells c.remove_others.new.disk)
+    (subst (λ f. Changes (g.D.Disk.tells c.args.disk.now) (g.D.Disk.tells c.remove_others.new.disk) (RemovesOthers f)) c.file.ensures c.remove_others.ensures.stays)
+    (subst (λ f. IsHonest (g.D.Disk.tells c.args.disk.now) → HasNoOther f (account (g.D.Disk.tells c.remove_others.new.disk)).files) c.file.ensures c.in_ok-remove_others.ensures.alone)
+    (g.D.Disk.tells c.append.new.disk) c.in_ok-journal.journal c.in_ok-journal.ensures.file c.in_ok-journal.ensures.stands c.in_ok-journal.ensures.other_files honest

@@ -2,6 +2,7 @@ use Rattle.std.proofs.lemmas.Result.{err_from_is_err_and}
 use Rattle.pg_disk.proofs.Runs.{then_run, weaker}
 use Rattle.pg_recover.proofs.OpenLemmas.{all_begun, all_gapless, all_named, all_recovered, check_ill, check_spent, has_epoch, kept_at, kept_otherwise, raised_leaves, reads_keep, ready, said_leaves}
 use Rattle.pg_recover.proofs.RecoverLemmas.{on_ok}
+use Rattle.pg_recover.proofs.WellLemmas.{well_at_ok}
 use Rattle.pg_recover.proofs.opening.open_synced.Goals as goal
 
 pub begin_epoch-requires : goal.begin_epoch-requires
@@ -75,3 +76,10 @@ returns-in_err-check_state-clause-kept g c =
 
 pub returns-clause-kept : goal.returns-clause-kept
 returns-clause-kept g c = kept_otherwise (g.D.Disk.tells c.args.disk.now) (g.D.Disk.tells c.begin_epoch.new.disk) c.begin_epoch.result c.begin_epoch.ensures.only
+
+pub returns-clause-well : goal.returns-clause-well
+returns-clause-well g c =
+    well_at_ok (g.D.Disk.tells c.args.disk.now) (g.D.Disk.tells c.read_journal.new.disk) (g.D.Disk.tells c.begin_epoch.new.disk) c.read_journal.ensures.stays.kept (λ honest. (c.in_ok-journal.ensures.found honest).keeps)
+    c.begin_epoch.result c.begin_epoch.ensures.keeps
+    (all_recovered (g.D.Disk.tells c.args.disk.now) (g.D.Disk.tells c.read_journal.new.disk) c.read_journal.ensures.stays c.in_ok-journal.journal c.in_ok-journal.durable c.in_ok-journal.ensures.found
+    (g.D.Disk.tells c.begin_epoch.new.disk) c.begin_epoch.result c.begin_epoch.ensures.raised c.begin_epoch.ensures.owned)

@@ -5,8 +5,9 @@ use Rattle.pg_disk.specs.declared.file_id.FileId.{FileId}
 use Rattle.pg_disk.specs.Account.{account}
 use Rattle.pg_disk.specs.Image.{IsFileThere}
 use Rattle.pg_gate.proofs.Reading.{one_read}
+use Rattle.pg_journal.specs.Generations.{as_read}
 use Rattle.pg_journal.specs.Stands.{IsQuietAt}
-use Rattle.pg_recover.specs.WellFormed.{IsGapless, IsNamed, IsThere}
+use Rattle.pg_recover.specs.WellFormed.{IsGapless, IsNamed, IsThere, WellFormed}
 use Rattle.pg_recover.proofs.OpenLemmas.{opens_then}
 use Rattle.pg_recover.proofs.RecoverLemmas.{all_denoted, all_ill, all_kept, all_moments, all_next, all_recovered, all_seen, all_spent, can_sync, listed_now, listing_moments, moments_once_synced, on_ok, quiet_now, sync_moments, sync_opens}
 use Rattle.pg_recover.proofs.opening.recover.Goals as goal
@@ -87,3 +88,8 @@ pub returns-clause-kept : goal.returns-clause-kept
 returns-clause-kept g c =
     all_kept (g.D.Disk.tells c.args.disk.now) (g.D.Disk.tells c.list.new.self) (g.D.Disk.tells c.sync_all.new.disk) c.list.ensures.same c.sync_all.ensures.stays c.open_synced.result (g.D.Disk.tells c.open_synced.new.disk)
     c.open_synced.ensures.kept
+
+pub returns-clause-well : goal.returns-clause-well
+returns-clause-well g c =
+    all_seen (g.D.Disk.tells c.args.disk.now) (g.D.Disk.tells c.list.new.self) (g.D.Disk.tells c.sync_all.new.disk) c.list.ensures.same c.sync_all.ensures.stays c.open_synced.result
+    (λ contents parts. WellFormed contents → WellFormed (as_read (account (g.D.Disk.tells c.open_synced.new.disk)).files)) c.open_synced.ensures.well

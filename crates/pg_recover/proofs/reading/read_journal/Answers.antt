@@ -36,7 +36,7 @@ returns-in_err-durable-clause-any_moment g c =
     then_run g.D.Disk.moment g.D.Disk.left_since c.args.disk.now c.find.new.disk c.read_payloads.new.disk _ _
     (weaker g.D.Disk.moment g.D.Disk.left_since c.args.disk.now c.find.new.disk _ _ c.find.ensures.any_moment (finding_leaves (g.D.Disk.tells c.args.disk.now) c.requires))
     c.read_payloads.ensures.any_moment
-    (found_leaves (g.D.Disk.tells c.args.disk.now) (g.D.Disk.tells c.find.new.disk) c.find.ensures.stays c.in_ok-journal.journal c.in_ok-journal.spans.items c.in_ok-journal.ensures.found)
+    (found_leaves (g.D.Disk.tells c.args.disk.now) (g.D.Disk.tells c.find.new.disk) c.find.ensures.stays c.in_ok-journal.journal c.in_ok-journal.spans.items c.in_ok-journal.ensures.found c.in_ok-journal.ensures.others c.requires)
 
 pub returns-in_err-durable-clause-damaged : goal.returns-in_err-durable-clause-damaged
 returns-in_err-durable-clause-damaged g c =
@@ -61,4 +61,4 @@ returns-clause-any_moment g c =
     then_run g.D.Disk.moment g.D.Disk.left_since c.args.disk.now c.find.new.disk c.read_payloads.new.disk _ _
     (weaker g.D.Disk.moment g.D.Disk.left_since c.args.disk.now c.find.new.disk _ _ c.find.ensures.any_moment (finding_leaves (g.D.Disk.tells c.args.disk.now) c.requires))
     c.read_payloads.ensures.any_moment
-    (found_leaves (g.D.Disk.tells c.args.disk.now) (g.D.Disk.tells c.find.new.disk) c.find.ensures.stays c.in_ok-journal.journal c.in_ok-journal.spans.items c.in_ok-journal.ensures.found)
+    (found_leaves (g.D.Disk.tells c.args.disk.now) (g.D.Disk.tells c.find.new.disk) c.find.ensures.stays c.in_ok-journal.journal c.in_ok-journal.spans.items c.in_ok-journal.ensures.found c.in_ok-journal.ensures.others c.requires)
