@@ -2,6 +2,7 @@ pub mod AlikeLemmas
 pub mod EpochLemmas
 pub mod FindLemmas
 pub mod GroupLemmas
+pub mod KeptLemmas
 pub mod ListLemmas
 pub mod OneState
 pub mod OpenLemmas

@@ -11,7 +11,6 @@ use Rattle.pg_disk.specs.Account.{FileState, Account, account, IsHonest}
 use Rattle.pg_disk.specs.Calls.{Changes}
 use Rattle.pg_disk.specs.Image.{IsFileThere}
 use Rattle.pg_gate.specs.Gated.{opened}
-use Rattle.pg_gate.specs.Spans.{IsMendable, StaysOrMends}
 use Rattle.pg_gate.proofs.Unique.{stands_length}
 use Rattle.pg_fold.specs.declared.durable.Durable.{Durable}
 use Rattle.pg_fold.specs.Sound.{IsSound}
@@ -25,7 +24,7 @@ use Rattle.pg_recover.specs.declared.opening.Parts.{Parts}
 use Rattle.pg_recover.specs.Denotation.{FoldsTo, raised}
 use Rattle.pg_recover.specs.Listing.{AreListed}
 use Rattle.pg_recover.specs.Raising.{IsFailedOrMemory, IsReady, IsUnfit, LeavesRaised}
-use Rattle.pg_recover.specs.Recovered.{AllQuiet, AreIllFormed, AreKept, HasNoEpoch, IsBegun, IsIllFormed, IsSpentAt, KeepsFiles, LeavesOpened, OpensFiles, Owns}
+use Rattle.pg_recover.specs.Recovered.{AllQuiet, AreIllFormed, AreKept, HasNoEpoch, IsBegun, IsIllFormed, IsSpentAt, LeavesOpened, OpensFiles, Owns}
 use Rattle.pg_recover.specs.Removing.{IsOther}
 use Rattle.pg_recover.specs.Said.{IsReadFrom, LeavesSaid}
 use Rattle.pg_recover.specs.WellFormed.{AreRoomy, IsGapless, IsNamed, IsThere}
@@ -45,41 +44,6 @@ said_leaves old c b left = record {
   denotes = λ _ d folds. inl (said_folds (as_read (account old).files) (as_left c) d left.says folds);
   well = λ _ well. well_still (as_read (account old).files) (as_left c) left.keeps well (inl (said_folds (as_read (account old).files) (as_left c) well.state left.says well.folds));
 }
-
--- reading writes nothing but a mend
-keeps_bytes : (s t : Option FileState) → StaysOrMends s t → (bytes : List ℕ) → bytes_of s ≡ Some bytes → (IsMendable bytes → ⊥) → bytes_of t ≡ Some bytes
-keeps_bytes None t stays bytes is solid = cc
-keeps_bytes (Some s) t stays bytes is solid =
-    let same = same_bytes s.bytes bytes is in
-    let u = stays (λ mends. solid (subst IsMendable same mends)) in
-    ap bytes_of u.1 ∙ ap Some (u.2 ∙ same)
-  where
-    same_bytes : (a b : List ℕ) → ◌≡◌ {A = Option (List ℕ)} (Some a) (Some b) → a ≡ b
-    same_bytes a b is = cc
-
-makes_first : (s t : Option FileState) (first : Type 0) → bytes_of s ≡ None → (s ≡ None → (t ≡ None) ⊎ first) → (bytes_of t ≡ None) ⊎ first
-makes_first None t first none made = ⊎_elim (λ is. inl (ap bytes_of is)) (λ is. inr is) (made refl)
-makes_first (Some s) t first none made = cc
-
-pub reads_keep : (old mid : Option Account) → Changes old mid ReadsGenerations → Changes old mid KeepsFiles
-reads_keep old mid stays = record {
-  kept = stays.kept;
-  back = stays.back;
-  step = λ h.
-      let a = stays.step h in
-      record {
-        told = a.told;
-        others = λ file kind. ap bytes_of (a.others file kind);
-        generations = λ file kind. keeps_bytes (get (account old).files file) (get (account mid).files file) (a.generations file kind);
-        made = λ file kind none. makes_first (get (account old).files file) (get (account mid).files file) (file ≡ first_generation) none (a.made file kind);
-      };
-}
-
-pub kept_at : (old new : Option Account) → Changes old new KeepsFiles → (e : Fault) → AreKept old new e
-kept_at old new keeps Failed = tt
-kept_at old new keeps (Damaged damage) = keeps
-kept_at old new keeps Spent = keeps
-kept_at old new keeps Memory = tt
 
 -- there was no damage, and no limit was met
 pub kept_otherwise : (old new : Option Account) (result : Result Parts Fault) → IfErr result IsFailedOrMemory → IfErr result (AreKept old new)

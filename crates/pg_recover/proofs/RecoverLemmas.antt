@@ -21,7 +21,7 @@ use Rattle.pg_recover.specs.declared.opening.Parts.{Parts}
 use Rattle.pg_recover.specs.Broker.{next_epoch}
 use Rattle.pg_recover.specs.Broker.{Durable as BrokerDurable}
 use Rattle.pg_recover.specs.Denotation.{Denotes, FoldsTo, durable_part, raised}
-use Rattle.pg_recover.specs.Recovered.{AllQuiet, AreKept, BeganQuiet, HasNoEpoch, IsIllFormed, IsSpentAt, KeepsFiles, LeavesOpened, OpensFiles, Owns}
+use Rattle.pg_recover.specs.Recovered.{AllQuiet, AreKept, BeganQuiet, HasNoEpoch, IsIllFormed, IsKeptGeneration, IsSpentAt, KeepsFiles, LeavesOpened, OpensFiles, Owns}
 use Rattle.pg_recover.specs.Syncing.{NarrowsAt, SyncsFiles}
 use Rattle.pg_recover.specs.WellFormed.{WellFormed}
 use Rattle.pg_recover.proofs.OneState.{one_folded}
@@ -131,12 +131,10 @@ module _ (old mid now : Option Account) (same : Changes old mid (Reads 0)) (sync
     back = λ h. sync_opens.back (keeps.back h);
     step = λ h.
         let b = keeps.step (sync_opens.kept h) in
-        let same : (file : FileId) → as_read (account now).files file ≡ as_read (account old).files file = λ file. ap (λ (contents : Contents). contents file) (reads_as h) in
         record {
           told = b.told ∙ (sync_opens.step h).told;
-          others = λ file kind. b.others file kind ∙ same file;
-          generations = λ file kind bytes is solid. b.generations file kind bytes (same file ∙ is) solid;
-          made = λ file kind none. b.made file kind (same file ∙ none);
+          others = λ file kind. b.others file kind ∙ ap (λ (contents : Contents). contents file) (reads_as h);
+          generations = λ file kind. subst (λ contents. IsKeptGeneration contents (as_read (account new).files) file) (reads_as h) (b.generations file kind);
         };
   }
 

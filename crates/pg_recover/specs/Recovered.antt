@@ -1,5 +1,5 @@
 -- What an opening comes to, and what a crash within it leaves.
-use Rattle.std.specs.Prelude.{◌≡◌, ◌≢◌, ◌⊎◌, ◌≤◌, ◌<◌, ◌+◌, ◌^◌, ℕ, List, length, Option, Some, None}
+use Rattle.std.specs.Prelude.{◌≡◌, ◌≢◌, ◌⊎◌, ◌≤◌, ◌<◌, ◌+◌, ◌^◌, ℕ, List, [], length, Option, Some, None}
 use Rattle.std.specs.FinMap.{FinMap, get}
 use Rattle.pg_disk.specs.declared.fault.Fault.{Fault}
 use Rattle.pg_disk.specs.declared.fault.Fault.TheVariants.{Failed, Damaged, Spent, Memory}
@@ -8,7 +8,7 @@ use Rattle.pg_disk.specs.declared.file_id.Kind.TheVariants.{Journal as OfJournal
 use Rattle.pg_disk.specs.Account.{FileState, Account, account, IsHonest}
 use Rattle.pg_disk.specs.Files.{file_cmp, Files}
 use Rattle.pg_disk.specs.Calls.{Changes}
-use Rattle.pg_gate.specs.Gated.{opened}
+use Rattle.pg_gate.specs.Gated.{opened, HasBatches}
 use Rattle.pg_gate.specs.Spans.{IsMendable}
 use Rattle.pg_records.specs.declared.entry.Entry.{Entry}
 use Rattle.pg_records.specs.Entries.{SpellBatches}
@@ -16,7 +16,7 @@ use Rattle.pg_fold.specs.declared.durable.Durable.{Durable}
 use Rattle.pg_fold.specs.Fold.{fold, fresh}
 use Rattle.pg_fold.specs.Sound.{IsSound}
 use Rattle.pg_journal.specs.declared.journal.Journal.{Journal}
-use Rattle.pg_journal.specs.Generations.{as_read, as_left, bytes_of, first_generation}
+use Rattle.pg_journal.specs.Generations.{Contents, as_read, as_left, bytes_of, first_generation, HasNoneThere}
 use Rattle.pg_journal.specs.Stands.{IsQuietAt, Stands, name_of}
 use Rattle.pg_recover.specs.Denotation.{FoldsTo, raised}
 use Rattle.pg_recover.specs.WellFormed.{WellFormed}
@@ -58,13 +58,27 @@ pub record OpensFiles (old new : Account) : Type 0 where
   pub taken : old.taken ≤ new.taken
   pub others : (file : FileId) → file.kind ≢ OfJournal → bytes_of (get new.files file) ≡ bytes_of (get old.files file)
 
--- Nothing was written but a mend: each file has the bytes that it had, but for a generation of the journal that was empty or had the one byte 1. The
--- first generation may have been laid where it wasn't there.
+-- The generation was empty or had the one byte 1, so that it had no batch. It is there still, and has none.
+abbrev pub IsMended : Option (List ℕ) → Option (List ℕ) → Type 0
+IsMended None now = ⊥
+IsMended (Some bytes) now = IsMendable bytes × HasBatches [] now
+
+-- it is the first generation, laid where no generation was there, and has no batch
+pub record IsLaid (old now : Contents) (file : FileId) : Type 0 where
+  pub first : file ≡ first_generation
+  pub none : HasNoneThere old
+  pub empty : HasBatches [] (now file)
+
+-- a generation has the bytes that it had, or it was mended or laid
+abbrev pub IsKeptGeneration : Contents → Contents → FileId → Type 0
+IsKeptGeneration old now file = (now file ≡ old file) ⊎ (IsMended (old file) (now file) ⊎ IsLaid old now file)
+
+-- Nothing was told, and each file that is no generation of the journal has the bytes that it had. So has each generation, but for one without a batch that
+-- was mended, and for the first one where it was laid. None that was there is gone.
 pub record KeepsFiles (old new : Account) : Type 0 where
   pub told : new.told ≡ old.told
   pub others : (file : FileId) → file.kind ≢ OfJournal → bytes_of (get new.files file) ≡ bytes_of (get old.files file)
-  pub generations : (file : FileId) → file.kind ≡ OfJournal → (bytes : List ℕ) → bytes_of (get old.files file) ≡ Some bytes → (IsMendable bytes → ⊥) → bytes_of (get new.files file) ≡ Some bytes
-  pub made : (file : FileId) → file.kind ≡ OfJournal → bytes_of (get old.files file) ≡ None → (bytes_of (get new.files file) ≡ None) ⊎ (file ≡ first_generation)
+  pub generations : (file : FileId) → file.kind ≡ OfJournal → IsKeptGeneration (as_read old.files) (as_read new.files) file
 
 -- so it is where there was damage or a limit was met
 abbrev pub AreKept : Option Account → Option Account → Fault → Type 0

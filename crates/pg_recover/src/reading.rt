@@ -1,5 +1,5 @@
 // The journal is found and read, in large pieces.
-ghost use Rattle.std.specs.Prelude.{◌≡◌, ◌≤◌, ◌+◌, ℕ, length, IfOk, IfErr};
+ghost use Rattle.std.specs.Prelude.{◌≡◌, ◌≤◌, ◌+◌, ℕ, length, IfOk, IfErr, OnOk};
 ghost use Rattle.pg_disk.specs.Account.{account, IsHonest};
 ghost use Rattle.pg_disk.specs.Calls.{Changes, Reads};
 ghost use Rattle.pg_disk.specs.Counts.{CountsFault};
@@ -10,7 +10,7 @@ ghost use Rattle.pg_journal.specs.Looks.{ReadsGenerations};
 ghost use Rattle.pg_fold.specs.Sound.{IsSound};
 ghost use Rattle.pg_recover.specs.Folding.{FoldsFrom, FoldsNowhere, IsDamageOnly};
 ghost use Rattle.pg_recover.specs.Places.{AreInside, Covers, IsInside, payloads_at};
-ghost use Rattle.pg_recover.specs.Recovered.{AllQuiet, AreIllFormed};
+ghost use Rattle.pg_recover.specs.Recovered.{AllQuiet, AreIllFormed, AreKept, KeepsFiles};
 ghost use Rattle.pg_recover.specs.Said.{IsReadFrom, LeavesSaid};
 
 use crate::folding::fold_group;
@@ -85,6 +85,8 @@ pub(crate) fn read_journal<D: Disk>(
         IsReadFrom found.0 found.1 (account (D.tells disk.old)).files (account (D.tells disk.new)).files) }
     ensures sound { IfOk result (λ found. IsSound found.1) }
     ensures stays { Changes (D.tells disk.old) (D.tells disk.new) ReadsGenerations }
+    ensures keeps { OnOk result (Changes (D.tells disk.old) (D.tells disk.new) KeepsFiles) }
+    ensures kept { IfErr result (AreKept (D.tells disk.old) (D.tells disk.new)) }
     ensures any_moment { Within D.moment D.left_since disk.old disk.new (LeavesSaid (D.tells disk.old)) }
     ensures damaged { IfErr result (IsDamageOnly (AreIllFormed (D.tells disk.old))) }
     ensures cause { CountsFault (D.faults disk.old) (D.faults disk.new) result }

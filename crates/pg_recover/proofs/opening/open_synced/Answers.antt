@@ -1,6 +1,7 @@
 use Rattle.std.proofs.lemmas.Result.{err_from_is_err_and}
 use Rattle.pg_disk.proofs.Runs.{then_run, weaker}
-use Rattle.pg_recover.proofs.OpenLemmas.{all_begun, all_gapless, all_named, all_recovered, check_ill, check_spent, has_epoch, kept_at, kept_otherwise, raised_leaves, reads_keep, ready, said_leaves}
+use Rattle.pg_recover.proofs.KeptLemmas.{kept_at}
+use Rattle.pg_recover.proofs.OpenLemmas.{all_begun, all_gapless, all_named, all_recovered, check_ill, check_spent, has_epoch, kept_otherwise, raised_leaves, ready, said_leaves}
 use Rattle.pg_recover.proofs.RecoverLemmas.{on_ok}
 use Rattle.pg_recover.proofs.WellLemmas.{well_at_ok}
 use Rattle.pg_recover.proofs.opening.open_synced.Goals as goal
@@ -62,17 +63,10 @@ returns-clause-gapless g c =
     all_gapless (g.D.Disk.tells c.args.disk.now) (g.D.Disk.tells c.read_journal.new.disk) c.read_journal.ensures.stays c.in_ok-journal.journal c.in_ok-journal.durable c.in_ok-journal.ensures.found
     c.args.files.now c.requires.listed c.in_ok-check_state.ensures.listed c.begin_epoch.result c.begin_epoch.ensures.raised
 
-pub returns-in_err-journal-clause-kept : goal.returns-in_err-journal-clause-kept
-returns-in_err-journal-clause-kept g c =
-    let is = err_from_is_err_and c.from_residual.result c.from_residual.ensures.1 in
-    rw (is.1, is.2) (kept_at (g.D.Disk.tells c.args.disk.now) (g.D.Disk.tells c.read_journal.new.disk) (reads_keep (g.D.Disk.tells c.args.disk.now) (g.D.Disk.tells c.read_journal.new.disk) c.read_journal.ensures.stays)
-    c.in_err-journal.field-0.0)
-
 pub returns-in_err-check_state-clause-kept : goal.returns-in_err-check_state-clause-kept
 returns-in_err-check_state-clause-kept g c =
     let is = err_from_is_err_and c.from_residual-in_err-check_state.result c.from_residual-in_err-check_state.ensures.1 in
-    rw (is.1, is.2) (kept_at (g.D.Disk.tells c.args.disk.now) (g.D.Disk.tells c.read_journal.new.disk) (reads_keep (g.D.Disk.tells c.args.disk.now) (g.D.Disk.tells c.read_journal.new.disk) c.read_journal.ensures.stays)
-    c.in_err-check_state.field-0.0)
+    rw (is.1, is.2) (kept_at (g.D.Disk.tells c.args.disk.now) (g.D.Disk.tells c.read_journal.new.disk) c.in_ok-journal.ensures.keeps c.in_err-check_state.field-0.0)
 
 pub returns-clause-kept : goal.returns-clause-kept
 returns-clause-kept g c = kept_otherwise (g.D.Disk.tells c.args.disk.now) (g.D.Disk.tells c.begin_epoch.new.disk) c.begin_epoch.result c.begin_epoch.ensures.only

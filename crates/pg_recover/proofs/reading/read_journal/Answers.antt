@@ -8,6 +8,7 @@ use Rattle.pg_fold.specs.Sound.{IsSound}
 use Rattle.pg_fold.proofs.SoundLaws.{sound_fresh}
 use Rattle.pg_journal.specs.Stands.{name_of}
 use Rattle.pg_recover.proofs.FindLemmas.{cut_ill, finding_leaves, found_ill, found_leaves, found_there, folds_named, nowhere_named, read_from, then_reads}
+use Rattle.pg_recover.proofs.KeptLemmas.{find_kept, kept_at, read_keeps}
 use Rattle.pg_recover.proofs.PieceLemmas.{damage_only_weaker}
 use Rattle.pg_recover.proofs.reading.read_journal.Goals as goal
 
@@ -26,6 +27,26 @@ pub returns-in_err-journal-clause-damaged : goal.returns-in_err-journal-clause-d
 returns-in_err-journal-clause-damaged g c =
     let is = err_from_is_err_and c.from_residual.result c.from_residual.ensures.1 in
     rw (is.1, is.2) (cut_ill (g.D.Disk.tells c.args.disk.now) c.in_err-journal.field-0.0 c.in_err-journal.ensures.damaged)
+
+pub returns-in_err-journal-clause-kept : goal.returns-in_err-journal-clause-kept
+returns-in_err-journal-clause-kept g c =
+    let is = err_from_is_err_and c.from_residual.result c.from_residual.ensures.1 in
+    rw (is.1, is.2) (find_kept (g.D.Disk.tells c.args.disk.now) (g.D.Disk.tells c.find.new.disk) c.find.ensures.stays c.in_err-journal.field-0.0 c.in_err-journal.ensures.kept)
+
+pub returns-in_err-durable-clause-kept : goal.returns-in_err-durable-clause-kept
+returns-in_err-durable-clause-kept g c =
+    let is = err_from_is_err_and c.from_residual-in_err-durable.result c.from_residual-in_err-durable.ensures.1 in
+    rw (is.1, is.2) (kept_at (g.D.Disk.tells c.args.disk.now) (g.D.Disk.tells c.read_payloads.new.disk)
+    (read_keeps (g.D.Disk.tells c.args.disk.now) (g.D.Disk.tells c.find.new.disk) c.find.ensures.stays c.in_ok-journal.journal
+    (λ honest. let found = c.in_ok-journal.ensures.found honest in (found.0, found.1, found.2)) c.in_ok-journal.ensures.goes_on c.in_ok-journal.ensures.others
+    (g.D.Disk.tells c.read_payloads.new.disk) c.read_payloads.ensures.same.0 c.read_payloads.ensures.same.1)
+    c.in_err-durable.field-0.0)
+
+pub returns-clause-keeps : goal.returns-clause-keeps
+returns-clause-keeps g c =
+    read_keeps (g.D.Disk.tells c.args.disk.now) (g.D.Disk.tells c.find.new.disk) c.find.ensures.stays c.in_ok-journal.journal
+    (λ honest. let found = c.in_ok-journal.ensures.found honest in (found.0, found.1, found.2)) c.in_ok-journal.ensures.goes_on c.in_ok-journal.ensures.others
+    (g.D.Disk.tells c.read_payloads.new.disk) c.read_payloads.ensures.same.0 c.read_payloads.ensures.same.1
 
 pub returns-in_err-durable-clause-stays : goal.returns-in_err-durable-clause-stays
 returns-in_err-durable-clause-stays g c =
