@@ -6,6 +6,7 @@ pub mod Laying
 pub mod Reading
 pub mod Scanning
 pub mod Sealing
+pub mod ShortBatch
 pub mod Stages
 pub mod Taking
 pub mod Unique

@@ -1,4 +1,4 @@
-// A whole batch at once.
+// A whole batch at once: a short one in one write behind the closed gate, and a longer one piece by piece.
 ghost use Rattle.std.specs.Prelude.{◌≡◌, ◌<◌, ◌+◌, ◌^◌, ◌↔◌, [], ◌∷◌, ◌++◌, length, IfOk, IfErr, OnErr, IsErrOf};
 ghost use Rattle.std.specs.FinMap.{get};
 ghost use Rattle.pg_disk.specs.Account.{account, IsHonest};
@@ -10,6 +10,7 @@ ghost use Rattle.pg_gate.specs.Gated.{HasOldOrNew, StandsFor, IsFailedOrSpent, f
 
 use crate::Rest;
 use crate::log::LIMIT;
+use crate::small::{SMALL, append_small};
 use pg_disk::{Disk, Fault};
 
 impl Rest {
@@ -41,6 +42,9 @@ impl Rest {
         let count = batch.len() as u64;
         if end > LIMIT || count > LIMIT - end {
             return Err(Fault::Spent);
+        }
+        if batch.len() <= SMALL {
+            return Ok(append_small(self, disk, batch)?);
         }
         let filling = self.begin().add(disk, batch)?;
         filling.seal(disk)

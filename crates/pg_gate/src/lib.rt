@@ -8,6 +8,7 @@ mod log;
 mod opening;
 mod places;
 mod seal;
+mod small;
 mod spans;
 #[cfg(test)]
 mod tests;

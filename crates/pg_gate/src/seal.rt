@@ -38,7 +38,7 @@ fn stage<D: Disk>(filling: &Filling, disk: &mut D) -> Result<(), Failed>
 }
 
 // Opens the gate before a whole batch, and syncs: now it counts.
-fn open<D: Disk>(file: FileId, gate: u64, disk: &mut D) -> Result<(), Failed>
+pub(crate) fn open<D: Disk>(file: FileId, gate: u64, disk: &mut D) -> Result<(), Failed>
     requires { IsHonest (D.tells disk.old) →
         (batches : _) × (piece : _) ×
         Stages gate batches piece (get (account (D.tells disk.old)).files file) }
