@@ -1,5 +1,5 @@
 -- What a command does to the broker and to its files, and what a crash within it leaves.
-use Rattle.std.specs.Prelude.{◌≡◌, ◌≢◌, ◌⊎◌, ◌<◌, ◌+◌, ◌^◌, ℕ, List, [], length, Option, Some, None, Result, IfOk}
+use Rattle.std.specs.Prelude.{◌≡◌, ◌≢◌, ◌⊎◌, ◌<◌, ◌+◌, ◌^◌, ℕ, List, [], length, Option, Some, None, Result, IfOk, OnOk}
 use Rattle.std.specs.FinMap.{FinMap}
 use Rattle.pg_disk.specs.declared.fault.Fault.{Fault}
 use Rattle.pg_disk.specs.declared.fault.Fault.TheVariants.{Failed, Damaged, Spent, Memory}
@@ -14,6 +14,7 @@ use Rattle.pg_journal.specs.Stands.{counted}
 use Rattle.pg_recover.specs.Broker.{Durable, Broker, refusal_of, Step}
 use Rattle.pg_recover.specs.Denotation.{Denotes}
 use Rattle.pg_recover.specs.Recovered.{Owns as OwnsJournal}
+use Rattle.pg_recover.specs.Staying.{LeavesWell, StaysWell}
 use Rattle.pg_engine.specs.declared.engine.Engine.{Engine}
 use Rattle.pg_engine.specs.Kept.{broker_of}
 use Rattle.pg_engine.specs.Outcomes.{HasNoNumber, batch_of}
@@ -31,11 +32,12 @@ pub record MeetsLimit (engine : Engine) (command : Command) : Type 0 where
   pub accepted : refusal_of (state_of engine) command ≡ None
   pub full : HasNoNumber (state_of engine) command ⊎ ((batch_of (state_of engine) command ≢ []) × (2 ^ 62 < counted engine.journal + length (batch_bytes (batch_of (state_of engine) command)) + 9))
 
--- nothing more is told, and the files denote the one or the other
+-- nothing more is told, the files denote the one or the other, and well formed files stay so
 pub record LeavesEither (a b : Durable) (entry : Option Account) (image : Files) (told : List ℕ) : Type 0 where
   pub honest : IsHonest entry
   pub nothing : told ≡ (account entry).told
   pub denoted : Denotes (as_left image) a ⊎ Denotes (as_left image) b
+  pub well : LeavesWell entry image
 
 -- the engine stands for the state, and owns the files
 pub record StandsAt (engine : Engine) (state : Broker) (now : Option Account) : Type 0 where
@@ -52,6 +54,7 @@ pub record Executes {D : Type 0} (moment : D → ℕ) (left_since : D → ℕ �
   pub kept : IsHonest (tells new)
   pub told : (account (tells new)).told ≡ (account (tells old)).told
   pub ok : IfOk result (λ done. (done.1 ≡ reply) × StandsAt done.0 next (tells new))
+  pub stays : OnOk result (StaysWell (tells old) (tells new))
 
 abbrev pub IsDamaged : Fault → Type 0
 IsDamaged Failed = ⊥

@@ -7,8 +7,8 @@ use Rattle.pg_journal.specs.Generations.{as_read, as_left}
 use Rattle.pg_recover.specs.declared.opening.Parts.{Parts}
 use Rattle.pg_recover.specs.Broker.{Broker, Durable, next_epoch, opened_from}
 use Rattle.pg_recover.specs.Denotation.{Denotes}
-use Rattle.pg_recover.specs.Recovered.{IsBegun}
-use Rattle.pg_recover.specs.WellFormed.{AreRoomy}
+use Rattle.pg_recover.specs.Recovered.{AllQuiet, IsBegun}
+use Rattle.pg_recover.specs.WellFormed.{AreRoomy, WellFormed}
 use Rattle.pg_engine.specs.declared.engine.Engine.{Engine}
 use Rattle.pg_engine.specs.Executed.{StandsAt}
 use Rattle.pg_engine.specs.Kept.{Kept}
@@ -19,17 +19,20 @@ pub record IsOpened (ids : ℕ) (tells : Option Account) (first : Broker) : Type
   pub denoted : Denotes (as_read (account tells).files) durable
   pub opened : first ≡ opened_from ids durable
 
--- the engine stands for that state, and owns the files
+-- the engine stands for that state, and owns the files, of which nothing is pending and which are well formed if they were
 pub record OpensAt (ids : ℕ) (old new : Option Account) (engine : Engine) : Type 0 where
   pub first : Broker
   pub opened : IsOpened ids old first
   pub stands : StandsAt engine first new
+  pub quiet : AllQuiet (account new).files
+  pub well : WellFormed (as_read (account old).files) → WellFormed (as_read (account new).files)
 
--- Nothing was told, and where that is asked, the files denote what they denoted, or that in the next epoch.
+-- Nothing was told, and where that is asked, the files denote what they denoted, or that in the next epoch, and well formed files stay so.
 pub record LeavesEpoch (asked : Type 0) (tells : Option Account) (image : Files) (told : List ℕ) : Type 0 where
   pub honest : IsHonest tells
   pub nothing : told ≡ (account tells).told
   pub denoted : asked → (d : Durable) → Denotes (as_read (account tells).files) d → Denotes (as_left image) d ⊎ Denotes (as_left image) (next_epoch d)
+  pub well : asked → WellFormed (as_read (account tells).files) → WellFormed (as_left image)
 
 -- what an engine is made of: a sound state in a new epoch, whose messages have room
 pub record AreParts (parts : Parts) : Type 0 where

@@ -11,6 +11,7 @@ use Rattle.pg_records.specs.declared.entry.Entry.TheVariants as entry
 use Rattle.pg_records.specs.Entries.{HasFields, batch_bytes}
 use Rattle.pg_fold.specs.Fold.{IsApplied}
 use Rattle.pg_recover.specs.Broker.{Broker, place_of, routed, next_id, plain, refusal_of, Step}
+use Rattle.pg_recover.specs.WellFormed.{AreRoomy}
 use Rattle.pg_engine.specs.declared.state.Outcome.{Outcome}
 use Rattle.pg_engine.specs.declared.state.Outcome.TheVariants.{Unchanged, Changed}
 use Rattle.pg_engine.specs.Kept.{Kept, broker_of}
@@ -32,7 +33,7 @@ abbrev pub HasNoNumber : Broker → Command → Type 0
 HasNoNumber s (command.Queue name address None) = 4294967295 ≤ s.durable.next
 HasNoNumber s _ = ⊥
 
--- The command isn't refused, its batch has one entry, which gives the state after it, and the bytes spell the batch.
+-- The command isn't refused, its batch has one entry, which gives the state after it, the bytes spell the batch, and the messages have room.
 pub record Records (s : Kept) (command : Command) (batch : List ℕ) (t : Kept) : Type 0 where
   pub entry : Entry
   pub accepted : refusal_of (broker_of s) command ≡ None
@@ -40,6 +41,7 @@ pub record Records (s : Kept) (command : Command) (batch : List ℕ) (t : Kept) 
   pub applied : IsApplied s.durable entry t.durable
   pub fields : HasFields entry
   pub bytes : batch ≡ batch_bytes (entry ∷ [])
+  pub roomy : AreRoomy t.durable
 
 -- one step, which keeps the state or has a batch
 abbrev pub IsOutcome : Kept → Command → Outcome → Type 0

@@ -1,7 +1,7 @@
 -- One line: what it does, what is told of its reply, and what a crash within it leaves.
 use Rattle.std.proofs.Common.{◌≡◌, ◌⊎◌, inl, inr, ⊎_elim, ℕ, ◌+◌, ◌≤◌, ◌<◌, List, [], ◌∷◌, ◌++◌, length, take, drop, Bool, true, Option, Result, Ok, Err, refl, sym, ◌∙◌, ap, subst, arith, length-drop, take-append-drop}
 use Rattle.std.proofs.lemmas.List.{append-nil, take_all}
-use Rattle.std.specs.Prelude.{IsErr, IsErrOf}
+use Rattle.std.specs.Prelude.{IsErr, IsErrOf, MatchResult}
 use Rattle.std.specs.FinMap.{get}
 use Rattle.pg_disk.specs.declared.fault.Fault.{Fault}
 use Rattle.pg_disk.specs.declared.fault.SiteFault.{SiteFault}
@@ -16,13 +16,17 @@ use Rattle.pg_msg.specs.declared.command.Command.{Command}
 use Rattle.pg_msg.specs.declared.reply.Reply.{Reply}
 use Rattle.pg_text.specs.Spelling.{ReadsAs}
 use Rattle.pg_text.specs.Replies.{reply_line, reply_bytes}
-use Rattle.pg_journal.specs.Generations.{as_left}
+use Rattle.pg_journal.specs.Generations.{as_left, as_read}
 use Rattle.pg_engine.specs.declared.engine.Engine.{Engine}
 use Rattle.pg_recover.specs.Broker.{Broker, Step, last_state}
 use Rattle.pg_recover.specs.Denotation.{Denotes}
+use Rattle.pg_recover.specs.Recovered.{AllQuiet}
+use Rattle.pg_recover.specs.Staying.{StaysWell}
+use Rattle.pg_recover.specs.WellFormed.{WellFormed}
+use Rattle.pg_recover.proofs.WellLemmas.{image_well}
 use Rattle.pg_engine.specs.Executed.{state_of, Owns, LeavesEither, StandsAt, Executes}
 use Rattle.pg_engine.proofs.Executing.{owned_denote}
-use Rattle.pg_run.specs.Answered.{Answers}
+use Rattle.pg_run.specs.Answered.{Answers, IsPartOf}
 use Rattle.pg_run.specs.Served.{Tells, LeavesBetween, Serves, ServesAll}
 use Rattle.pg_run.proofs.RunLemmas.{line_some, tells_all}
 
@@ -72,12 +76,13 @@ module _ (first : Broker) (item : Option Command) (reply : Reply) (next : Broker
       between k close within denoted = record {
         honest = left.honest;
         between = record { n = 0; k = k; close = close; within = within; more = []; bytes = left.nothing ∙ sym (append-nil (account entry).told); tells = none_told reply; denoted = denoted };
+        well = left.well;
       }
 
   -- while the reply is told
-  pub prefix_between : (mid : Option Account) (engine : Engine) → IsHonest entry → (account mid).told ≡ (account entry).told → StandsAt engine next mid → (image : Files) (told : List ℕ) → LeavesPrefix (reply_line reply) mid image told
+  pub prefix_between : (mid : Option Account) (engine : Engine) → IsHonest entry → (account mid).told ≡ (account entry).told → StandsAt engine next mid → StaysWell entry mid → (image : Files) (told : List ℕ) → LeavesPrefix (reply_line reply) mid image told
       → LeavesBetween first (reply ∷ []) (next ∷ []) entry image told
-  prefix_between mid engine honest same stands image told left =
+  prefix_between mid engine honest same stands stays image told left =
       let part = told_of reply left.count left.within in
       record {
         honest = honest;
@@ -91,7 +96,21 @@ module _ (first : Broker) (item : Option Command) (reply : Reply) (next : Broker
           tells = part.told;
           denoted = subst (λ (s : Broker). Denotes (as_left image) s.durable) stands.stands (owned_denote engine (account mid).files image stands.owns left.image);
         };
+        well = λ quiet was. image_well (account mid).files image (stays.quiet quiet) left.image (stays.well quiet was);
       }
+
+-- what holds of an error holds of a result that is one
+at_err : {T E : Type 0} (P : T → Type 0) (Q : E → Type 0) (result : Result T E) → IsErr result → ((e : E) → Q e) → MatchResult result P Q
+at_err P Q (Ok x) failed is = cc
+at_err P Q (Err e) failed is = is e
+
+at_err_of : {T E : Type 0} (P : T → Type 0) (Q : E → Type 0) (result : Result T E) (e : E) → IsErrOf result e → Q e → MatchResult result P Q
+at_err_of P Q result e failed is = subst (λ r. MatchResult r P Q) (sym failed) is
+
+-- no part is told
+no_part : (fault : SiteFault) (part : List ℕ) → part ≡ [] → IsPartOf fault part
+no_part (Disk fault) part none = none
+no_part Sink part none = tt
 
 -- of no reply nothing is told
 abbrev nothing_told : Tells [] 0 []
@@ -121,6 +140,7 @@ module _ {D : Type 0} (moment : D → ℕ) (left_since : D → ℕ → Files →
             tells = nothing_told;
             denoted = subst (λ (s : Broker). Denotes (as_left c) s.durable) stands (owned_denote engine (account (tells old)).files c owns now.image);
           };
+          well = λ quiet. image_well (account (tells old)).files c quiet now.image;
         });
     kept = honest;
     n = 0;
@@ -149,10 +169,10 @@ module _ {D : Type 0} (moment : D → ℕ) (left_since : D → ℕ → Files →
       told = none_told reply;
     } in (serves, refl)
 
-    module _ (engine : Engine) (stands : StandsAt engine next (tells mid)) (new : D) (telling : Within moment left_since mid new (LeavesPrefix (reply_line reply) (tells mid))) where
+    module _ (engine : Engine) (stands : StandsAt engine next (tells mid)) (stays : StaysWell (tells old) (tells mid)) (new : D) (telling : Within moment left_since mid new (LeavesPrefix (reply_line reply) (tells mid))) where
       all_moments : Within moment left_since old new (LeavesBetween first (reply ∷ []) (next ∷ []) (tells old))
       all_moments = then_run moment left_since old mid new _ _ (weaker moment left_since old mid _ _ moments (either_between first item reply next (tells old))) telling
-          (prefix_between first item reply next (tells old) (tells mid) engine honest told stands)
+          (prefix_between first item reply next (tells old) (tells mid) engine honest told stands stays)
 
       -- its reply was told in part
       pub half_told : (ok : Bool) → Changes (tells mid) (tells new) (Emits (reply_line reply) ok) → Serves LeavesBetween moment left_since tells first (line ∷ []) old new
@@ -193,19 +213,19 @@ module _ {D : Type 0} (moment : D → ℕ) (left_since : D → ℕ → Files →
               stands = stands.stands;
               owns = subst (λ files. Owns engine files) (sym emits.files) stands.owns;
             };
+            stays = record {
+              quiet = λ quiet. subst AllQuiet (sym emits.files) (stays.quiet quiet);
+              well = λ quiet was. subst (λ files. WellFormed (as_read files)) (sym emits.files) (stays.well quiet was);
+            };
           }
 
   -- an Err owes what was served so far
   pub answers_err : (new : D) (result : Result Engine SiteFault) → IsErr result → (serves : Serves LeavesBetween moment left_since tells first (line ∷ []) old new) → serves.told.part ≡ [] → Answers moment left_since tells first line old new result
-  answers_err new (Ok engine) failed serves quiet = cc
-  answers_err new (Err (Disk fault)) failed serves quiet = (serves, quiet)
-  answers_err new (Err Sink) failed serves quiet = (serves, tt)
+  answers_err new result failed serves quiet = at_err _ _ result failed (λ fault. (serves, no_part fault serves.told.part quiet))
 
   -- where the output failed a part of the reply may be told
   pub answers_sink : (new : D) (result : Result Engine SiteFault) → IsErrOf result Sink → Serves LeavesBetween moment left_since tells first (line ∷ []) old new → Answers moment left_since tells first line old new result
-  answers_sink new (Ok engine) failed serves = cc
-  answers_sink new (Err (Disk fault)) failed serves = cc
-  answers_sink new (Err Sink) failed serves = (serves, tt)
+  answers_sink new result failed serves = at_err_of _ _ result Sink failed (serves, tt)
 
   -- what an execution that gave up leaves
   pub gave_up : (engine : Engine) → ((c : Files) (b : List ℕ) → left_since old (moment old) c b → Leaves (tells old) c b) → state_of engine ≡ first → Owns engine (account (tells old)).files
@@ -231,6 +251,7 @@ module _ {D : Type 0} (moment : D → ℕ) (left_since : D → ℕ → Files →
     pub moments : Within moment left_since old mid (LeavesEither first.durable next.durable (tells old))
     pub told : (account (tells mid)).told ≡ (account (tells old)).told
     pub stands : StandsAt engine next (tells mid)
+    pub stays : StaysWell (tells old) (tells mid)
 
   pub executed : (mid : D) (engine : Engine) (reply : Reply) → (IsErr (done_of engine reply) × (mid ≡ old)) ⊎ ((item : Option Command) × ReadsAs line item × Executes moment left_since tells first item old mid (Ok (engine, reply)))
       → Executed mid engine reply
@@ -244,6 +265,7 @@ module _ {D : Type 0} (moment : D → ℕ) (left_since : D → ℕ → Files →
       moments = some.2.moments;
       told = some.2.told;
       stands = some.2.ok.1;
+      stays = some.2.stays;
     }
   ]
 

@@ -136,6 +136,7 @@ module _ {D : Type 0} (moment : D → ℕ) (left_since : D → ℕ → Files →
           to_end = λ is. absurd (⊎_elim (λ five. omega (arith, is, five)) (λ seven. omega (arith, is, seven)) place);
           to_place = λ _. refl;
           at_rest = λ _ image is. rests moment left_since tells first old s.whole now engine all image is;
+          stays = λ _. all.stays;
           full = λ is. absurd (⊎_elim (λ five. omega (arith, is, five)) (λ seven. omega (arith, is, seven)) place);
         }
 
@@ -152,6 +153,7 @@ module _ {D : Type 0} (moment : D → ℕ) (left_since : D → ℕ → Files →
           to_end = λ is. absurd (omega (arith, is));
           to_place = λ is. absurd (⊎_elim (λ b. omega (arith, b)) (λ c. omega (arith, c)) is);
           at_rest = λ is. absurd (⊎_elim (λ a. omega (arith, a)) (λ other. ⊎_elim (λ b. omega (arith, b)) (λ c. omega (arith, c)) other) is);
+          stays = λ is. absurd (⊎_elim (λ a. omega (arith, a)) (λ other. ⊎_elim (λ b. omega (arith, b)) (λ c. omega (arith, c)) other) is);
           full = λ is. absurd (omega (arith, is));
         }
 
@@ -249,6 +251,7 @@ module _ {D : Type 0} (moment : D → ℕ) (left_since : D → ℕ → Files →
               to_end = λ _. refl;
               to_place = λ is. absurd (⊎_elim (λ b. omega (arith, b)) (λ c. omega (arith, c)) is);
               at_rest = λ _ image is. rests moment left_since tells first old (lines_of s.whole took.whole) new all.0 all.1 image is;
+              stays = λ _. all.1.stays;
               full = λ is. absurd (omega (arith, is));
             };
       }
@@ -282,6 +285,7 @@ module _ {D : Type 0} (moment : D → ℕ) (left_since : D → ℕ → Files →
           to_end = λ is. absurd (stopped.0 (inl is));
           to_place = λ is. absurd (stopped.0 (inr is));
           at_rest = λ is. absurd (stopped.0 is);
+          stays = λ is. absurd (stopped.0 is);
           full = λ is. absurd (stopped.1 is);
         }
 
@@ -298,6 +302,7 @@ module _ {D : Type 0} (moment : D → ℕ) (left_since : D → ℕ → Files →
               to_end = λ is. absurd (omega (arith, is));
               to_place = λ is. absurd (⊎_elim (λ b. omega (arith, b)) (λ c. omega (arith, c)) is);
               at_rest = λ is. absurd (⊎_elim (λ a. omega (arith, a)) (λ other. ⊎_elim (λ b. omega (arith, b)) (λ c. omega (arith, c)) other) is);
+              stays = λ is. absurd (⊎_elim (λ a. omega (arith, a)) (λ other. ⊎_elim (λ b. omega (arith, b)) (λ c. omega (arith, c)) other) is);
               full = λ _. inr (
                 took.whole,
                 more,
@@ -380,6 +385,7 @@ module _ {D : Type 0} (moment : D → ℕ) (left_since : D → ℕ → Files →
       to_end = λ is. absurd (omega (arith, is));
       to_place = λ is. absurd (not_served_6 (inr is));
       at_rest = λ is. absurd (not_served_6 is);
+      stays = λ is. absurd (not_served_6 is);
       full = λ is. absurd (omega (arith, is));
     };
   }

@@ -12,6 +12,7 @@ use Rattle.pg_text.specs.Replies.{reply_text, reply_line, reply_bytes, BeginsNex
 use Rattle.pg_journal.specs.Generations.{as_left}
 use Rattle.pg_recover.specs.Broker.{Broker, Run, last_state}
 use Rattle.pg_recover.specs.Denotation.{Denotes}
+use Rattle.pg_recover.specs.Staying.{StaysWell}
 use Rattle.pg_run.specs.Served.{Tells, LeavesBetween}
 
 pub pushed_some : (xs : List ℕ) (x : ℕ) → xs ++ (x ∷ []) ≢ []
@@ -102,12 +103,13 @@ between_more first replies more states more_states entry image told left = let b
     tells = tells_more replies more b.n b.more b.tells;
     denoted = subst (λ (ss : List Broker). Denotes (as_left image) (last_state first ss).durable) (sym (take-append-le b.k states more_states b.within)) b.denoted;
   };
+  well = left.well;
 }
 
 -- the moments of a later run, seen from the beginning of the earlier one
 pub between_then : (first : Broker) (replies more : List Reply) (states more_states : List Broker) (entry mid : Option Account) (image : Files) (told : List ℕ) → IsHonest entry → length states ≡ length replies
-    → (account mid).told ≡ (account entry).told ++ reply_bytes replies → LeavesBetween (last_state first states) more more_states mid image told → LeavesBetween first (replies ++ more) (states ++ more_states) entry image told
-between_then first replies more states more_states entry mid image told honest same so_far left = let b = left.between in record {
+    → (account mid).told ≡ (account entry).told ++ reply_bytes replies → StaysWell entry mid → LeavesBetween (last_state first states) more more_states mid image told → LeavesBetween first (replies ++ more) (states ++ more_states) entry image told
+between_then first replies more states more_states entry mid image told honest same so_far stays left = let b = left.between in record {
   honest = honest;
   between = record {
     n = length replies + b.n;
@@ -120,4 +122,5 @@ between_then first replies more states more_states entry mid image told honest s
     denoted = subst (λ (ss : List Broker). Denotes (as_left image) (last_state first ss).durable) (sym (take-append-add states more_states b.k))
         (subst (λ (s : Broker). Denotes (as_left image) s.durable) (sym (last_state-append first states (take b.k more_states))) b.denoted);
   };
+  well = λ quiet was. left.well (stays.quiet quiet) (stays.well quiet was);
 }

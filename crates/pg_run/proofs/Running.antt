@@ -15,6 +15,7 @@ use Rattle.pg_journal.specs.Generations.{as_left}
 use Rattle.pg_engine.specs.declared.engine.Engine.{Engine}
 use Rattle.pg_recover.specs.Broker.{Broker, Run, last_state}
 use Rattle.pg_recover.specs.Denotation.{Denotes}
+use Rattle.pg_recover.proofs.WellLemmas.{image_well}
 use Rattle.pg_engine.specs.Executed.{state_of, StandsAt}
 use Rattle.pg_engine.proofs.Executing.{owned_denote}
 use Rattle.pg_run.specs.Served.{LeavesBetween, Serves, ServesAll}
@@ -44,14 +45,16 @@ module _ {D : Type 0} (moment : D → ℕ) (left_since : D → ℕ → Files →
             tells = tells_all [];
             denoted = subst (λ (s : Broker). Denotes (as_left c) s.durable) stands.stands (owned_denote engine (account (tells old)).files c stands.owns now.image);
           };
+          well = λ quiet. image_well (account (tells old)).files c quiet now.image;
         });
     told = sym (append-nil (account (tells old)).told);
     stands = stands;
+    stays = record { quiet = λ quiet. quiet; well = λ quiet was. was };
   }
 
   -- the same lines, of which only so much was kept
   pub kept_served : (kept line : List ℕ) → kept ≡ take (longest_line + 1) line → (new : D) (engine : Engine) → ServesAll moment left_since tells first (kept ∷ []) old new engine → ServesAll moment left_since tells first (line ∷ []) old new engine
-  kept_served kept line is new engine s = record { items = s.items; replies = s.replies; states = s.states; read = kept_one kept line s.items is s.read; all = s.all; run = s.run; moments = s.moments; told = s.told; stands = s.stands }
+  kept_served kept line is new engine s = record { items = s.items; replies = s.replies; states = s.states; read = kept_one kept line s.items is s.read; all = s.all; run = s.run; moments = s.moments; told = s.told; stands = s.stands; stays = s.stays }
 
   abbrev pub kept_begun : (kept line : List ℕ) → kept ≡ take (longest_line + 1) line → (new : D) → Serves LeavesBetween moment left_since tells first (kept ∷ []) old new → Serves LeavesBetween moment left_since tells first (line ∷ []) old new
   kept_begun kept line is new s = record { items = s.items; replies = s.replies; states = s.states; read = kept_one kept line s.items is s.read; run = s.run; moments = s.moments; kept = s.kept; n = s.n; last = s.last; more = s.more; bytes = s.bytes; told = s.told }
@@ -97,10 +100,11 @@ module _ {D : Type 0} (moment : D → ℕ) (left_since : D → ℕ → Files →
           all = omega (arith, s.all, t.all, length-append s.items t.items, length-append lines more);
           run = run_then first s.items t.items s.replies t.replies s.states t.states s.run t.run;
           moments = then_run moment left_since old mid new _ _ (weaker moment left_since old mid _ _ s.moments (between_more first s.replies t.replies s.states t.states (tells old))) t.moments
-              (λ c b. between_then first s.replies t.replies s.states t.states (tells old) (tells mid) c b honest (run_lengths first s.items s.replies s.states s.run).0 s.told);
+              (λ c b. between_then first s.replies t.replies s.states t.states (tells old) (tells mid) c b honest (run_lengths first s.items s.replies s.states s.run).0 s.told s.stays);
           told = t.told ∙ (ap (λ (b : List ℕ). b ++ reply_bytes t.replies) s.told ∙ (append_assoc (account (tells old)).told (reply_bytes s.replies) (reply_bytes t.replies)
               ∙ ap (λ (b : List ℕ). (account (tells old)).told ++ b) (sym (reply_bytes-append s.replies t.replies))));
           stands = subst (λ (b : Broker). StandsAt next b (tells new)) (sym (last_state-append first s.states t.states)) t.stands;
+          stays = record { quiet = λ quiet. t.stays.quiet (s.stays.quiet quiet); well = λ quiet was. t.stays.well (s.stays.quiet quiet) (s.stays.well quiet was) };
         }
 
     -- the same where the last one was interrupted
@@ -112,7 +116,7 @@ module _ {D : Type 0} (moment : D → ℕ) (left_since : D → ℕ → Files →
       read = read_then lines more s.items t.items s.read s.all t.read;
       run = run_then first s.items t.items s.replies t.replies s.states t.states s.run (subst (λ (b : Broker). Run b t.items t.replies t.states) s.stands.stands t.run);
       moments = then_run moment left_since old mid new _ _ (weaker moment left_since old mid _ _ s.moments (between_more first s.replies t.replies s.states t.states (tells old))) t.moments
-          (λ c b left. between_then first s.replies t.replies s.states t.states (tells old) (tells mid) c b honest (run_lengths first s.items s.replies s.states s.run).0 s.told
+          (λ c b left. between_then first s.replies t.replies s.states t.states (tells old) (tells mid) c b honest (run_lengths first s.items s.replies s.states s.run).0 s.told s.stays
           (subst (λ (x : Broker). LeavesBetween x t.replies t.states (tells mid) c b) s.stands.stands left));
       kept = t.kept;
       n = length s.replies + t.n;

@@ -25,7 +25,7 @@ use Rattle.pg_engine.specs.declared.engine.Engine.{Engine}
 use Rattle.pg_journal.specs.Generations.{as_left, as_read}
 use Rattle.pg_recover.specs.Broker.{Durable, Broker, opened_from, last_state}
 use Rattle.pg_recover.specs.Denotation.{Denotes, durable_part}
-use Rattle.pg_recover.specs.Recovered.{AreIllFormed, AreKept, BeganQuiet, HasNoEpoch, IsSpentAt, OpensFiles}
+use Rattle.pg_recover.specs.Recovered.{AllQuiet, AreIllFormed, AreKept, BeganQuiet, HasNoEpoch, IsSpentAt, OpensFiles}
 use Rattle.pg_recover.specs.WellFormed.{WellFormed}
 use Rattle.pg_engine.specs.Executed.{state_of}
 use Rattle.pg_engine.specs.Opened.{LeavesEpoch, OpensAt}
@@ -62,18 +62,21 @@ opening_left asked ids durable replies states entry denoted image told left = re
         denoted = after;
       }))
       (left.denoted now durable denoted);
+  well = left.well;
 }
 
 -- after it
-pub running_left : (asked : Option Account → Type 0) (durable : Durable) (first : Broker) (replies : List Reply) (states : List Broker) (entry mid : Option Account) → IsHonest entry → (account mid).told ≡ (account entry).told → (image : Files) (told : List ℕ)
+pub running_left : (asked : Option Account → Type 0) (durable : Durable) (first : Broker) (replies : List Reply) (states : List Broker) (entry mid : Option Account) → IsHonest entry → (account mid).told ≡ (account entry).told → AllQuiet (account mid).files → (WellFormed (as_read (account entry).files) → WellFormed (as_read (account mid).files)) → (image : Files) (told : List ℕ)
     → LeavesBetween first replies states mid image told → LeavesRun asked durable first replies states entry image told
-running_left asked durable first replies states entry mid honest same image told left = record {
+running_left asked durable first replies states entry mid honest same quiet stays image told left = record {
   honest = honest;
   moment = λ now. inr (subst (λ (before : List ℕ). IsBetween first replies states before image told) same left.between);
+  well = λ now was. left.well quiet (stays was);
 }
 
 module _ {D : Type 0} (moment : D → ℕ) (left_since : D → ℕ → Files → List ℕ → Type 0) (tells : D → Option Account) (old : D) (unopened : Type 0) (ids : ℕ) where
-  module _ (durable : Durable) (honest : IsHonest (tells old)) (denoted : Denotes (as_read (account (tells old)).files) durable) (mid : D) (same : (account (tells mid)).told ≡ (account (tells old)).told) where
+  module _ (durable : Durable) (honest : IsHonest (tells old)) (denoted : Denotes (as_read (account (tells old)).files) durable) (mid : D) (same : (account (tells mid)).told ≡ (account (tells old)).told)
+      (quiet : AllQuiet (account (tells mid)).files) (stays : WellFormed (as_read (account (tells old)).files) → WellFormed (as_read (account (tells mid)).files)) where
     abbrev first : Broker
     first = opened_from ids durable
 
@@ -81,7 +84,7 @@ module _ {D : Type 0} (moment : D → ℕ) (left_since : D → ℕ → Files →
     opened_moments : (new : D) (replies : List Reply) (states : List Broker) → Within moment left_since old mid (LeavesEpoch (BeganQuiet (tells old)) (tells old)) → Within moment left_since mid new (LeavesBetween first replies states (tells mid))
         → Within moment left_since old new (LeavesRun BeganQuiet durable first replies states (tells old))
     opened_moments new replies states opening run = then_run moment left_since old mid new _ _ (weaker moment left_since old mid _ _ opening (opening_left BeganQuiet ids durable replies states (tells old) denoted)) run
-        (running_left BeganQuiet durable first replies states (tells old) (tells mid) honest same)
+        (running_left BeganQuiet durable first replies states (tells old) (tells mid) honest same quiet stays)
 
     -- and so do those from the one on at which nothing is pending
     late_moments : (new : D) (replies : List Reply) (states : List Broker) → WithinFrom moment left_since old mid (LeavesEpoch (Unit {0}) (tells old)) → Within moment left_since mid new (LeavesBetween first replies states (tells mid))
@@ -92,7 +95,7 @@ module _ {D : Type 0} (moment : D → ℕ) (left_since : D → ℕ → Files →
       until = omega (arith, opening.until, run.later);
       each = λ c b left. ⊎_elim
           (λ earlier. opening_left AnyTime ids durable replies states (tells old) denoted c b (opening.each c b earlier))
-          (λ now. running_left AnyTime durable first replies states (tells old) (tells mid) honest same c b now)
+          (λ now. running_left AnyTime durable first replies states (tells old) (tells mid) honest same quiet stays c b now)
           (run.before opening.first c b opening.until left);
     }
 
@@ -121,6 +124,7 @@ module _ {D : Type 0} (moment : D → ℕ) (left_since : D → ℕ → Files →
       to_end = r.to_end;
       to_place = r.to_place;
       at_rest = r.at_rest;
+      stays = λ is. record { quiet = λ _. (r.stays is).quiet quiet; well = λ _ was. (r.stays is).well quiet (stays was) };
       full = λ is. ⊎_elim (λ none. absurd none) (λ full. inr full) (r.full is);
     }
 
@@ -142,10 +146,10 @@ module _ {D : Type 0} (moment : D → ℕ) (left_since : D → ℕ → Files →
       behind = ran.behind;
       input = ran.input;
       cut = ran.cut;
-      replies = λ durable honest denoted. opened_replies durable honest denoted mid (stays.step honest).told ran.whole ran.behind rest_old rest_new new status opening (inner_replies durable honest denoted);
+      replies = λ durable honest denoted. opened_replies durable honest denoted mid (stays.step honest).told (opens honest).quiet (opens honest).well ran.whole ran.behind rest_old rest_new new status opening (inner_replies durable honest denoted);
       late = λ durable honest denoted other.
           let serves = (inner_replies durable honest denoted).serves in
-          late_moments durable honest denoted mid (stays.step honest).told new serves.replies serves.states once serves.moments;
+          late_moments durable honest denoted mid (stays.step honest).told (opens honest).quiet (opens honest).well new serves.replies serves.states once serves.moments;
     }
 
   not_served : (fault : Fault) → IsInputServed (status_of_fault fault) → ⊥
@@ -206,6 +210,7 @@ module _ {D : Type 0} (moment : D → ℕ) (left_since : D → ℕ → Files →
       to_end = λ is. absurd (not_served cause (inl is));
       to_place = λ is. absurd (not_served cause (inr is));
       at_rest = λ is. absurd (not_served cause is);
+      stays = λ is. absurd (not_served cause is);
       full = λ is. inl (spent honest (is_spent cause is));
     };
     late = λ durable honest denoted other. absurd (opening_failed cause other);
@@ -254,6 +259,7 @@ input_served unopened moment left_since tells ids limit rest_old rest_new old ne
               (s.told.bytes ∙ (ap (λ (part : List ℕ). reply_bytes (take s.n s.replies) ++ part) (r.in_part (λ e. omega (arith, e))) ∙ (append-nil (reply_bytes (take s.n s.replies)) ∙ ap reply_bytes (take_all s.n s.replies (omega (arith, all.0, all.1, sizes.1))))));
           denoted = r.at_rest (inl refl) (reads (account (tells new)).files) (read_left (account (tells new)).files s.kept.sound);
         };
+        well = (r.stays (inl refl)).well;
       },
     )
 

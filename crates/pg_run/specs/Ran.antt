@@ -19,10 +19,12 @@ use Rattle.pg_lines.specs.Reading.{IsAtEnd, ReadErrorCounts}
 use Rattle.pg_text.specs.Spelling.{ReadsAs, ReadAs}
 use Rattle.pg_text.specs.Replies.{reply_bytes}
 use Rattle.pg_journal.specs.Generations.{as_left, as_read}
+use Rattle.pg_recover.specs.Staying.{StaysWell}
+use Rattle.pg_recover.specs.WellFormed.{WellFormed}
 use Rattle.pg_engine.specs.declared.engine.Engine.{Engine}
 use Rattle.pg_recover.specs.Broker.{Broker, Durable, Run, last_state, opened_from}
 use Rattle.pg_recover.specs.Denotation.{Denotes}
-use Rattle.pg_recover.specs.Recovered.{BeganQuiet, HasNoEpoch, KeepsFiles}
+use Rattle.pg_recover.specs.Recovered.{AllQuiet, BeganQuiet, HasNoEpoch, KeepsFiles}
 use Rattle.pg_engine.specs.Executed.{StandsAt, MeetsLimit}
 use Rattle.pg_engine.specs.Executed.{IsDamaged}
 use Rattle.pg_run.specs.declared.run.Stop.{Stop}
@@ -78,6 +80,7 @@ pub record Replies {D : Type 0} (leaving : Broker → List Reply → List Broker
   pub to_end : status ≡ 0 → lines ≡ lines_of whole behind
   pub to_place : (status ≡ 5) ⊎ (status ≡ 7) → lines ≡ whole
   pub at_rest : IsInputServed status → (image : Files) → IsImage (account (tells new)).files image → Denotes (as_left image) (last_state first serves.states).durable
+  pub stays : IsInputServed status → StaysWell (tells old) (tells new)
   pub full : status ≡ 8 → unopened ⊎ ((line : List ℕ) × (others : List (List ℕ)) × (drop serves.n lines ≡ line ∷ others) × IsFull tells (last_state first serves.states) line new)
 
 -- What was read up to the limit is cut into lines, and these are served in order, on what is asked of the site.
@@ -159,11 +162,12 @@ pub record ServesInput (first : Broker) (input : List ℕ) (old new : Account) :
   pub told : new.told ≡ old.told ++ reply_bytes replies
   pub denoted : Denotes (as_left (reads new.files)) (last_state first states).durable
 
--- The same from the state that is opened from what the files denote.
+-- The same from the state that is opened from what the files denote. Well formed files stay so.
 pub record ServesOpened (ids : ℕ) (input : List ℕ) (old new : Account) : Type 0 where
   pub durable : Durable
   pub denoted : Denotes (as_read old.files) durable
   pub serves : ServesInput (opened_from ids durable) input old new
+  pub well : AllQuiet old.files → WellFormed (as_read old.files) → WellFormed (as_read new.files)
 
 -- The site is honest, no device failed, the input was told and is no longer than its limit, and no line would grow the journal
 -- past its own.

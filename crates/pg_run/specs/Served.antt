@@ -8,10 +8,12 @@ use Rattle.pg_msg.specs.declared.command.Command.{Command}
 use Rattle.pg_msg.specs.declared.reply.Reply.{Reply}
 use Rattle.pg_text.specs.Spelling.{ReadAs}
 use Rattle.pg_text.specs.Replies.{reply_bytes, BeginsNext}
-use Rattle.pg_journal.specs.Generations.{as_left}
+use Rattle.pg_journal.specs.Generations.{as_left, as_read}
 use Rattle.pg_engine.specs.declared.engine.Engine.{Engine}
 use Rattle.pg_recover.specs.Broker.{Durable, Broker, Run, last_state}
 use Rattle.pg_recover.specs.Denotation.{Denotes}
+use Rattle.pg_recover.specs.Staying.{LeavesWell, StaysWell}
+use Rattle.pg_recover.specs.WellFormed.{WellFormed}
 use Rattle.pg_engine.specs.Executed.{StandsAt}
 
 -- the first n replies are told whole, and of the next one a part that isn't the whole
@@ -32,15 +34,18 @@ pub record IsBetween (first : Broker) (replies : List Reply) (states : List Brok
   pub tells : Tells replies n more
   pub denoted : Denotes (as_left image) (last_state first (take k states)).durable
 
--- what a crash leaves within a run that began where this was told
+-- what a crash leaves within a run that began where this was told; well formed files stay so
 pub record LeavesBetween (first : Broker) (replies : List Reply) (states : List Broker) (entry : Option Account) (image : Files) (told : List ℕ) : Type 0 where
   pub honest : IsHonest entry
   pub between : IsBetween first replies states (account entry).told image told
+  pub well : LeavesWell entry image
 
--- What a crash leaves within a run that began with opening, where that is asked: what was denoted before and nothing told, or a moment of the run.
+-- What a crash leaves within a run that began with opening, where that is asked: what was denoted before and nothing told, or a moment of the run; and
+-- well formed files stay so.
 pub record LeavesRun (asked : Option Account → Type 0) (durable : Durable) (first : Broker) (replies : List Reply) (states : List Broker) (entry : Option Account) (image : Files) (told : List ℕ) : Type 0 where
   pub honest : IsHonest entry
   pub moment : asked entry → ((told ≡ (account entry).told) × Denotes (as_left image) durable) ⊎ IsBetween first replies states (account entry).told image told
+  pub well : asked entry → WellFormed (as_read (account entry).files) → WellFormed (as_left image)
 
 -- nothing more is asked
 abbrev pub AnyTime : Option Account → Type 0
@@ -73,3 +78,4 @@ pub record ServesAll {D : Type 0} (moment : D → ℕ) (left_since : D → ℕ �
   pub moments : Within moment left_since old new (LeavesBetween first replies states (tells old))
   pub told : (account (tells new)).told ≡ (account (tells old)).told ++ reply_bytes replies
   pub stands : StandsAt engine (last_state first states) (tells new)
+  pub stays : StaysWell (tells old) (tells new)

@@ -27,7 +27,7 @@ returns-in_err-tell-clause-answers g c honest =
     let same : c.as_slice.result.now ≡ reply_line c.in_ok-engine.reply = c.as_slice.ensures.value ∙ c.in_ok-text.ensures in
     answers_sink g.S.Disk.moment g.S.Disk.left_since g.S.Disk.tells c.args.site.now (state_of c.args.engine) c.args.line.now honest c.tell.new.site _ (search (rules, c.from_residual-in_err-tell.ensures, c.in_err-tell.ensures.only_sink))
     (half_told g.S.Disk.moment g.S.Disk.left_since g.S.Disk.tells c.args.site.now (state_of c.args.engine) c.args.line.now honest done.item done.reads c.in_ok-engine.reply done.next done.step c.exec_line.new.disk done.moments done.told
-    c.in_ok-engine.engine done.stands c.tell.new.site (subst (λ (l : List ℕ). Within g.S.Disk.moment g.S.Disk.left_since c.exec_line.new.disk c.tell.new.site (LeavesPrefix l (g.S.Disk.tells c.exec_line.new.disk))) same c.tell.ensures.any_moment)
+    c.in_ok-engine.engine done.stands done.stays c.tell.new.site (subst (λ (l : List ℕ). Within g.S.Disk.moment g.S.Disk.left_since c.exec_line.new.disk c.tell.new.site (LeavesPrefix l (g.S.Disk.tells c.exec_line.new.disk))) same c.tell.ensures.any_moment)
     _ (subst (λ (l : List ℕ). Changes (g.S.Disk.tells c.exec_line.new.disk) (g.S.Disk.tells c.tell.new.site) (Emits l (is_ok c.tell.result))) same c.tell.ensures.told))
 
 pub returns-clause-answers : goal.returns-clause-answers
@@ -35,5 +35,5 @@ returns-clause-answers g c honest =
     let done = executed g.S.Disk.moment g.S.Disk.left_since g.S.Disk.tells c.args.site.now (state_of c.args.engine) c.args.line.now honest c.exec_line.new.disk c.in_ok-engine.engine c.in_ok-engine.reply (c.in_ok-engine.ensures.executes honest) in
     let same : c.as_slice.result.now ≡ reply_line c.in_ok-engine.reply = c.as_slice.ensures.value ∙ c.in_ok-text.ensures in
     answered g.S.Disk.moment g.S.Disk.left_since g.S.Disk.tells c.args.site.now (state_of c.args.engine) c.args.line.now honest done.item done.reads c.in_ok-engine.reply done.next done.step c.exec_line.new.disk done.moments done.told
-    c.in_ok-engine.engine done.stands c.tell.new.site (subst (λ (l : List ℕ). Within g.S.Disk.moment g.S.Disk.left_since c.exec_line.new.disk c.tell.new.site (LeavesPrefix l (g.S.Disk.tells c.exec_line.new.disk))) same c.tell.ensures.any_moment)
+    c.in_ok-engine.engine done.stands done.stays c.tell.new.site (subst (λ (l : List ℕ). Within g.S.Disk.moment g.S.Disk.left_since c.exec_line.new.disk c.tell.new.site (LeavesPrefix l (g.S.Disk.tells c.exec_line.new.disk))) same c.tell.ensures.any_moment)
     (subst (λ (l : List ℕ). Changes (g.S.Disk.tells c.exec_line.new.disk) (g.S.Disk.tells c.tell.new.site) (Emits l true)) same c.in_ok-tell.ensures.told)
