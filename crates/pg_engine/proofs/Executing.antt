@@ -1,6 +1,6 @@
 -- What the engine's own files denote, and a command that appends one batch to the journal.
 use Rattle.std.proofs.Common.{◌≡◌, ◌≢◌, inl, inr, ⊎_elim, ℕ, List, [], ◌∷◌, ◌++◌, Option, Some, Result, Ok, Err, refl, sym, ◌∙◌, ap, subst, append_assoc}
-use Rattle.std.specs.Prelude.{IfOk, IsErr}
+use Rattle.std.specs.Prelude.{IfOk, OnOk, IsErr}
 use Rattle.std.specs.FinMap.{FinMap}
 use Rattle.std.proofs.lemmas.List.{append-nil}
 use Rattle.pg_disk.specs.declared.fault.Fault.{Fault}
@@ -20,27 +20,36 @@ use Rattle.pg_fold.specs.declared.durable.Durable.{Durable as Folded}
 use Rattle.pg_fold.specs.Fold.{fold, fresh}
 use Rattle.pg_fold.proofs.FoldLaws.{fold_applied}
 use Rattle.pg_journal.specs.declared.journal.Journal.{Journal}
-use Rattle.pg_journal.specs.Generations.{Contents, as_left, JournalOf}
+use Rattle.pg_journal.specs.Generations.{Contents, as_left, as_read, JournalOf}
 use Rattle.pg_journal.specs.Looks.{LeavesOldOrNew}
 use Rattle.pg_journal.specs.Stands.{Stands, name_of}
-use Rattle.pg_journal.proofs.Saying.{stands_says}
-use Rattle.pg_recover.specs.Broker.{Durable, Broker, Step}
-use Rattle.pg_recover.specs.Denotation.{Denotes, durable_part}
+use Rattle.pg_journal.proofs.Saying.{stands_reads, stands_says}
+use Rattle.pg_recover.specs.Broker.{Durable, Step}
+use Rattle.pg_recover.specs.Denotation.{Denotes, FoldsTo, durable_part}
+use Rattle.pg_recover.proofs.WellLemmas.{image_well}
 use Rattle.pg_engine.specs.declared.engine.Engine.{Engine}
 use Rattle.pg_engine.specs.declared.state.Outcome.{Outcome}
 use Rattle.pg_engine.specs.declared.state.Outcome.TheVariants.{Unchanged}
 use Rattle.pg_engine.specs.Executed.{state_of, Owns, LeavesEither, Executes}
 use Rattle.pg_engine.specs.Kept.{Kept, broker_of}
 use Rattle.pg_engine.specs.Outcomes.{IsOutcome, Records}
+use Rattle.pg_engine.proofs.WellEngine.{GrowsTo, applied_grows, left_well, owned_sound, read_well, still_quiet}
 
 -- an answer that isn't Ok owes nothing of it
 not_ok : {T E : Type 0} (P : T → Type 0) (result : Result T E) → IsErr result → IfOk result P
 not_ok P (Ok x) failed = cc
 not_ok P (Err e) failed = tt
 
--- batches that spell entries which give a state denote what that state stands for
+on_not_ok : {T E : Type 0} (P : Type 0) (result : Result T E) → IsErr result → OnOk result P
+on_not_ok P (Ok x) failed = cc
+on_not_ok P (Err e) failed = tt
+
+-- batches that spell entries which give a state fold to it, and denote what it stands for
+spelled_fold : (contents : Contents) (batches : List (List ℕ)) (entries : List Entry) (d : Folded) → SpellBatches batches entries → fold fresh entries ≡ Some d → JournalOf contents batches → FoldsTo contents d
+spelled_fold contents batches entries d spelled folded says = record { batches = batches; entries = entries; says = says; spelled = spelled; folded = folded }
+
 pub spelled_denote : (contents : Contents) (batches : List (List ℕ)) (entries : List Entry) (d : Folded) → SpellBatches batches entries → fold fresh entries ≡ Some d → JournalOf contents batches → Denotes contents (durable_part d)
-spelled_denote contents batches entries d spelled folded says = record { state = d; folds = record { batches = batches; entries = entries; says = says; spelled = spelled; folded = folded }; is = refl }
+spelled_denote contents batches entries d spelled folded says = record { state = d; folds = spelled_fold contents batches entries d spelled folded says; is = refl }
 
 -- whatever a crash leaves of the engine's files denotes its state
 pub owned_denote : (engine : Engine) (files : FinMap file_cmp FileState) (image : Files) → Owns engine files → IsImage files image → Denotes (as_left image) (state_of engine).durable
@@ -69,7 +78,7 @@ module _ {D : Type 0} (moment : D → ℕ) (left_since : D → ℕ → Files →
   pub nothing_left : (next : Durable) → Within moment left_since old old (LeavesEither (state_of engine).durable next (tells old))
   nothing_left next = started moment left_since old _ (λ c b left.
       let now = law c b left in
-      record { honest = now.honest; nothing = now.told; denoted = inl (owned_denote engine (account (tells old)).files c owns now.image) })
+      record { honest = now.honest; nothing = now.told; denoted = inl (owned_denote engine (account (tells old)).files c owns now.image); well = λ quiet. image_well (account (tells old)).files c quiet now.image })
 
   -- a refusal leaves all as it was
   pub refused : IsHonest (tells old) → (item : Option Command) (refusal : Refusal) → Step (state_of engine) item (No refusal) (state_of engine) → Executes moment left_since tells (state_of engine) item old old (Ok (engine, No refusal))
@@ -81,6 +90,7 @@ module _ {D : Type 0} (moment : D → ℕ) (left_since : D → ℕ → Files →
     kept = honest;
     told = refl;
     ok = (refl, record { kept = honest; stands = refl; owns = owns });
+    stays = record { quiet = λ quiet. quiet; well = λ quiet well. well };
   }
 
   -- so does a command that changes nothing
@@ -99,6 +109,7 @@ module _ {D : Type 0} (moment : D → ℕ) (left_since : D → ℕ → Files →
           refl,
           record { kept = honest; stands = ap broker_of now.0; owns = subst (λ (s : Kept). Owns (record { journal = engine.journal; state = s }) (account (tells old)).files) (sym now.0) owns },
         );
+        stays = record { quiet = λ quiet. quiet; well = λ quiet well. well };
       }
 
   -- a batch that is appended
@@ -109,12 +120,20 @@ module _ {D : Type 0} (moment : D → ℕ) (left_since : D → ℕ → Files →
     folded_now : fold fresh (owns.entries ++ records.entry ∷ []) ≡ Some next.durable
     folded_now = fold_applied fresh engine.state.durable next.durable owns.entries records.entry owns.folded records.applied
 
+    grows : GrowsTo engine.state.durable.addresses next.durable.addresses
+    grows = applied_grows engine.state.durable next.durable records.entry (owned_sound engine.journal engine.state.durable (account (tells old)).files owns) records.applied
+
     pub either_left : (c : Files) (b : List ℕ) → LeavesOldOrNew engine.journal payload (tells old) c b → LeavesEither (state_of engine).durable (broker_of next).durable (tells old) c b
     either_left c b left = record {
       honest = left.honest;
       nothing = left.nothing;
       denoted = ⊎_elim (λ says. inl (spelled_denote (as_left c) owns.batches owns.entries engine.state.durable owns.spelled owns.folded says))
           (λ says. inr (spelled_denote (as_left c) (owns.batches ++ payload ∷ []) (owns.entries ++ records.entry ∷ []) next.durable spelled_now folded_now says)) (left.says owns.batches owns.stands);
+      well = λ quiet.
+          let kept = λ (e : Folded). left_well engine.journal engine.state.durable (account (tells old)).files owns c e quiet left.others in
+          ⊎_elim (λ says. kept engine.state.durable (spelled_fold (as_left c) owns.batches owns.entries engine.state.durable owns.spelled owns.folded says) (inl refl) (λ roomy. roomy))
+          (λ says. kept next.durable (spelled_fold (as_left c) (owns.batches ++ payload ∷ []) (owns.entries ++ records.entry ∷ []) next.durable spelled_now folded_now says) grows (λ roomy. records.roomy))
+          (left.says owns.batches owns.stands);
     }
 
     pub appending : (new : D) → Within moment left_since old new (LeavesOldOrNew engine.journal payload (tells old)) → Within moment left_since old new (LeavesEither (state_of engine).durable (broker_of next).durable (tells old))
@@ -131,6 +150,7 @@ module _ {D : Type 0} (moment : D → ℕ) (left_since : D → ℕ → Files →
       kept = changes.kept honest;
       told = (changes.step honest).told;
       ok = not_ok _ result failed;
+      stays = on_not_ok _ result failed;
     }
 
     pub appended : IsHonest (tells old) → (reply : Reply) → Step (state_of engine) (Some command) reply (broker_of next) → (new : D) (journal : Journal) → name_of journal ≡ name_of engine.journal
@@ -139,6 +159,10 @@ module _ {D : Type 0} (moment : D → ℕ) (left_since : D → ℕ → Files →
         → Executes moment left_since tells (state_of engine) (Some command) old new (Ok (record { journal = journal; state = next }, reply))
     appended honest reply step new journal same run changes stands =
         let change = changes.step honest in
+        let files = (account (tells old)).files in
+        let after = (account (tells new)).files in
+        let batches = owns.batches ++ payload ∷ [] in
+        let stood : Stands journal batches after = stands honest owns.batches owns.stands in
         record {
           reply = reply;
           next = broker_of next;
@@ -152,13 +176,18 @@ module _ {D : Type 0} (moment : D → ℕ) (left_since : D → ℕ → Files →
               kept = changes.kept honest;
               stands = refl;
               owns = record {
-                batches = owns.batches ++ payload ∷ [];
+                batches = batches;
                 entries = owns.entries ++ records.entry ∷ [];
-                stands = stands honest owns.batches owns.stands;
+                stands = stood;
                 spelled = spelled_now;
                 folded = folded_now;
                 alone = λ file kind other. let apart = subst (λ f. file ≢ f) same other in change.others file apart ∙ owns.alone file kind apart;
               };
             },
           );
+          stays = record {
+            quiet = still_quiet engine.journal engine.state.durable files owns journal batches after same stood change.others;
+            well = λ quiet. read_well engine.journal engine.state.durable files owns journal batches after same stood change.others next.durable
+                (spelled_fold (as_read after) batches (owns.entries ++ records.entry ∷ []) next.durable spelled_now folded_now (stands_reads journal batches after stood)) grows (λ roomy. records.roomy);
+          };
         }

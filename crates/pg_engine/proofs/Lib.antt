@@ -7,3 +7,4 @@ pub mod OpeningLemmas
 pub mod PartLemmas
 pub mod StepLemmas
 pub mod WeightLemmas
+pub mod WellEngine

@@ -12,6 +12,7 @@ use Rattle.pg_recover.specs.Broker.{Durable, next_epoch, opened_from}
 use Rattle.pg_recover.specs.Denotation.{Denotes, FoldsTo, durable_part, raised}
 use Rattle.pg_recover.specs.Recovered.{AllQuiet, LeavesOpened, OpensFiles}
 use Rattle.pg_recover.specs.Recovered.{Owns as OwnsJournal}
+use Rattle.pg_recover.specs.WellFormed.{WellFormed}
 use Rattle.pg_recover.proofs.OneState.{state_is}
 use Rattle.pg_engine.specs.declared.engine.Engine.{Engine}
 use Rattle.pg_engine.specs.Kept.{broker_of}
@@ -31,6 +32,7 @@ epoch_left asked old c b left = record {
   denoted = λ is d denoted.
       ⊎_elim (λ folds. inl (record { state = denoted.state; folds = folds; is = denoted.is })) (λ folds. inr (record { state = raised denoted.state; folds = folds; is = ap next_epoch denoted.is }))
       (left.denotes is denoted.state denoted.folds);
+  well = left.well;
 }
 
 -- at each moment of an opening
@@ -46,11 +48,13 @@ epoch_from moment left_since old new asked tells run = record { first = run.firs
 -- the engine of the parts that were recovered
 pub opened_at : (ids : ℕ) (old new : Option Account) (parts : Parts) (engine : Engine) → engine ≡ engine_of ids parts → Changes old new OpensFiles
     → (IsHonest old → (d : Folded) × FoldsTo (as_read (account old).files) d × (parts.durable ≡ raised d) × OwnsJournal parts.journal parts.durable (account new).files × AllQuiet (account new).files)
-    → IsHonest old → OpensAt ids old new engine
-opened_at ids old new parts engine is stays recovered honest =
+    → (IsHonest old → WellFormed (as_read (account old).files) → WellFormed (as_read (account new).files)) → IsHonest old → OpensAt ids old new engine
+opened_at ids old new parts engine is stays recovered well honest =
     let found = recovered honest in
     subst (OpensAt ids old new) (sym is) (record {
       first = opened_from ids (durable_part found.0);
       opened = record { durable = durable_part found.0; denoted = record { state = found.0; folds = found.1; is = refl }; opened = refl };
       stands = record { kept = stays.kept honest; stands = ap (λ d. broker_of (record { durable = d; drawn = 0; ids = ids })) found.2; owns = found.3 };
+      quiet = found.4;
+      well = well honest;
     })

@@ -22,6 +22,7 @@ use Rattle.pg_fold.specs.Sound.{IsSound}
 use Rattle.pg_recover.specs.Broker.{Address, Queue, Broker, place_of, routed, resident, with_address, with_queue, with_message, plain, queueing, sending, next_id, refusal_of_routed, refusal_at, refusal_of, Sends, Does, Refuses, Step}
 use Rattle.pg_recover.specs.Broker.{Durable as BrokerDurable}
 use Rattle.pg_recover.specs.Denotation.{held_by, weight_at, address_of, durable_part}
+use Rattle.pg_recover.specs.WellFormed.{AreRoomy}
 use Rattle.pg_engine.specs.declared.state.Outcome.TheVariants.{Unchanged, Changed}
 use Rattle.pg_engine.specs.Kept.{Kept, HasRoom, broker_of, name_of_row, names_in}
 use Rattle.pg_engine.specs.Names.{address_named, queue_named, numbers_at}
@@ -71,8 +72,8 @@ module _ (s : Kept) where
     address_entry = entry.Address (length d.addresses + 1) name max page ahead dup
 
     pub address_outcome : (t : Kept) (batch : List ℕ) → IsSound d → address_named (names_in d) name ≡ None → length d.addresses < 1000 → rule_of d address_entry ≡ None → HasFields address_entry
-        → t.durable ≡ changed d address_entry → t.drawn ≡ s.drawn → t.ids ≡ s.ids → batch ≡ batch_bytes (address_entry ∷ []) → IsOutcome s making (Changed t batch answer.Done)
-    address_outcome t batch sound new few condition fields now drawn ids bytes =
+        → t.durable ≡ changed d address_entry → t.drawn ≡ s.drawn → t.ids ≡ s.ids → batch ≡ batch_bytes (address_entry ∷ []) → AreRoomy t.durable → IsOutcome s making (Changed t batch answer.Done)
+    address_outcome t batch sound new few condition fields now drawn ids bytes roomy =
         let accepted : refusal_of b making ≡ None =
         address_many new ∙ ap (λ (c : Bool). if c then Some refusal.Line else None) (lt-leb 1000 (length b.durable.addresses) (omega (arith, few, length-map d.addresses (address_of d.journaled)))) in
         let same : broker_of t ≡ with_address b (record { name = name; max = max; page = page; ahead = ahead; dup = dup; held = [] }) =
@@ -88,6 +89,7 @@ module _ (s : Kept) where
             applied = record { condition = condition; effect = now };
             fields = fields;
             bytes = bytes;
+            roomy = roomy;
           },
         )
 
@@ -135,8 +137,8 @@ module _ (s : Kept) where
       queue_entry = entry.Queue d.next id name []
 
       pub queue_outcome : (t : Kept) (batch : List ℕ) → length (numbers_at id (map name_of_row d.queues)) < 1000 → rule_of d queue_entry ≡ None → HasFields queue_entry
-          → t.durable ≡ changed d queue_entry → t.drawn ≡ s.drawn → t.ids ≡ s.ids → batch ≡ batch_bytes (queue_entry ∷ []) → IsOutcome s queued (Changed t batch answer.Done)
-      queue_outcome t batch room condition fields now drawn ids bytes =
+          → t.durable ≡ changed d queue_entry → t.drawn ≡ s.drawn → t.ids ≡ s.ids → batch ≡ batch_bytes (queue_entry ∷ []) → AreRoomy t.durable → IsOutcome s queued (Changed t batch answer.Done)
+      queue_outcome t batch room condition fields now drawn ids bytes roomy =
           let same : broker_of t ≡ with_queue b name (id - 1) =
           ap (λ (x : Durable). record { durable = durable_part x; drawn = t.drawn; ids = t.ids }) now
           ∙ (ap (λ (n : ℕ). record { durable = durable_part (changed d queue_entry); drawn = n; ids = t.ids }) drawn
@@ -151,6 +153,7 @@ module _ (s : Kept) where
               applied = record { condition = condition; effect = now };
               fields = fields;
               bytes = bytes;
+              roomy = roomy;
             },
           )
 
@@ -220,8 +223,8 @@ module _ (s : Kept) where
       add_entry numbers = entry.Add id numbers sent
 
       sent_outcome : (n : ℕ) (ns : List ℕ) (t : Kept) (batch : List ℕ) → (n ∷ ns) ≡ numbers_at id (map name_of_row d.queues) → s.drawn < s.ids → HasRoom d id → rule_of d (add_entry (n ∷ ns)) ≡ None → HasFields (add_entry (n ∷ ns))
-          → t.durable ≡ changed d (add_entry (n ∷ ns)) → t.drawn ≡ s.drawn + 1 → t.ids ≡ s.ids → batch ≡ batch_bytes (add_entry (n ∷ ns) ∷ []) → IsOutcome s sends (Changed t batch (answer.Sent (next_id b)))
-      sent_outcome n ns t batch same left room condition fields now drawn ids bytes =
+          → t.durable ≡ changed d (add_entry (n ∷ ns)) → t.drawn ≡ s.drawn + 1 → t.ids ≡ s.ids → batch ≡ batch_bytes (add_entry (n ∷ ns) ∷ []) → AreRoomy t.durable → IsOutcome s sends (Changed t batch (answer.Sent (next_id b)))
+      sent_outcome n ns t batch same left room condition fields now drawn ids bytes roomy =
           let accepted : refusal_of b sends ≡ None = by_room n ns same left ∙ ap (λ (c : Bool). if c then Some refusal.Line else None) (lt-leb row.max (weight_at id d.journaled) (room row at)) in
           let after : broker_of t ≡ with_message b (id - 1) sent =
           ap (λ (x : Durable). record { durable = durable_part x; drawn = t.drawn; ids = t.ids }) now
@@ -237,16 +240,17 @@ module _ (s : Kept) where
               applied = record { condition = condition; effect = now };
               fields = fields;
               bytes = bytes;
+              roomy = roomy;
             },
           )
 
       pub send_outcome : (numbers : List ℕ) (m : Message) (t : Kept) (batch : List ℕ) → m ≡ sent → numbers ≡ numbers_at id (map name_of_row d.queues) → numbers ≢ [] → s.drawn < s.ids → HasRoom d id
-          → rule_of d (entry.Add id numbers m) ≡ None → HasFields (entry.Add id numbers m) → t.durable ≡ changed d (entry.Add id numbers m) → t.drawn ≡ s.drawn + 1 → t.ids ≡ s.ids → batch ≡ batch_bytes (entry.Add id numbers m ∷ [])
+          → rule_of d (entry.Add id numbers m) ≡ None → HasFields (entry.Add id numbers m) → t.durable ≡ changed d (entry.Add id numbers m) → t.drawn ≡ s.drawn + 1 → t.ids ≡ s.ids → batch ≡ batch_bytes (entry.Add id numbers m ∷ []) → AreRoomy t.durable
           → IsOutcome s sends (Changed t batch (answer.Sent (next_id b)))
-      send_outcome [] m t batch made same some left room condition fields now drawn ids bytes = absurd (some refl)
-      send_outcome (n ∷ ns) m t batch made same some left room condition fields now drawn ids bytes =
+      send_outcome [] m t batch made same some left room condition fields now drawn ids bytes roomy = absurd (some refl)
+      send_outcome (n ∷ ns) m t batch made same some left room condition fields now drawn ids bytes roomy =
           sent_outcome n ns t batch same left room (subst (λ (x : Message). rule_of d (entry.Add id (n ∷ ns) x) ≡ None) made condition) (subst (λ (x : Message). HasFields (entry.Add id (n ∷ ns) x)) made fields)
-          (now ∙ ap (λ (x : Message). changed d (entry.Add id (n ∷ ns) x)) made) drawn ids (bytes ∙ ap (λ (x : Message). batch_bytes (entry.Add id (n ∷ ns) x ∷ [])) made)
+          (now ∙ ap (λ (x : Message). changed d (entry.Add id (n ∷ ns) x)) made) drawn ids (bytes ∙ ap (λ (x : Message). batch_bytes (entry.Add id (n ∷ ns) x ∷ [])) made) roomy
 
   -- the command that counts
   module _ (queue : List ℕ) where

@@ -2,7 +2,6 @@
 use Rattle.std.specs.Prelude.{◌≡◌, ◌⊎◌, ℕ, List, Option}
 use Rattle.pg_disk.specs.Account.{Account, account, IsHonest}
 use Rattle.pg_disk.specs.Files.{Files}
-use Rattle.pg_fold.specs.declared.durable.Durable.{Durable as Folded}
 use Rattle.pg_journal.specs.Generations.{as_read, as_left}
 use Rattle.pg_recover.specs.declared.opening.Parts.{Parts}
 use Rattle.pg_recover.specs.Broker.{Broker, Durable, next_epoch, opened_from}
@@ -11,7 +10,6 @@ use Rattle.pg_recover.specs.Recovered.{AllQuiet, IsBegun}
 use Rattle.pg_recover.specs.WellFormed.{AreRoomy, WellFormed}
 use Rattle.pg_engine.specs.declared.engine.Engine.{Engine}
 use Rattle.pg_engine.specs.Executed.{StandsAt}
-use Rattle.pg_engine.specs.Kept.{Kept}
 
 -- the state is the one that is opened from what the files denote
 pub record IsOpened (ids : ℕ) (tells : Option Account) (first : Broker) : Type 0 where

@@ -70,8 +70,8 @@ fn a_crash_leaves_every_command_whose_reply_was_told(rt: HostRuntime) -> Result<
     let whole = site.bytes(JOURNAL).ok_or("journal")?;
     // The epoch, the address, the queue, and three messages; behind them the closed gate alone.
     assert_eq!(rt; counted(whole), (6, 200));
-    assert_eq!(rt; site.calls(), 47);
-    for stop in 1..48u64 {
+    assert_eq!(rt; site.calls(), 29);
+    for stop in 1..30u64 {
         if changes(site.call(stop)) {
             for pick in [
                 Pick::Old,
@@ -100,11 +100,11 @@ fn a_gate_that_is_half_written_is_open_only_where_it_reads_1(rt: HostRuntime) ->
     assert_eq!(rt; run(rt.alloc(), &mut site, EXAMPLE)?, 0);
     let whole = site.bytes(JOURNAL).ok_or("journal")?;
     // The last message is the third. Its gate is opened by the last write, before the last sync.
-    assert_eq!(rt; site.calls(), 47);
-    assert_eq!(rt; site.call(46), Some(CallKind::Write(JOURNAL)));
+    assert_eq!(rt; site.calls(), 29);
+    assert_eq!(rt; site.call(28), Some(CallKind::Write(JOURNAL)));
     let table = [(Pick::Old, 5), (Pick::Fill(7), 5), (Pick::Fill(1), 6)];
     for (pick, batches) in table {
-        let (told, count) = left(&site, whole, 46, pick)?.ok_or("other batches")?;
+        let (told, count) = left(&site, whole, 28, pick)?.ok_or("other batches")?;
         assert_eq!(rt; count, batches);
         assert_eq!(rt; told, 4);
     }

@@ -13,9 +13,9 @@ fn each_failing_call_of_the_disk_ends_the_run(rt: HostRuntime) -> Result<(), Fai
     let mut whole = MemSite::new(rt.alloc());
     assert_eq!(rt; run(rt.alloc(), &mut whole, SCRIPT)?, 0);
     assert_eq!(rt; whole.told(), REPLIES);
-    // Two listings, a create, and a write and a sync for the first gate; five writes and two syncs for each batch.
-    assert_eq!(rt; whole.calls(), 33);
-    for number in 1..34u64 {
+    // Two listings, a create, and a write and a sync for the first gate; two writes and two syncs for each batch.
+    assert_eq!(rt; whole.calls(), 21);
+    for number in 1..22u64 {
         let mut site = MemSite::new(rt.alloc());
         site.fail(&[number])?;
         let status = run(rt.alloc(), &mut site, SCRIPT)?;

@@ -119,15 +119,15 @@ type Case = (u64, u64, u64, u8, &'static [u8], u64);
 const SCRIPT: &[u8] = b"address A max 50 page 100 ahead 0 dup 0\nqueue Q on A\ncount Q\n";
 
 const CASES: [Case; 9] = [
-    (0, 0, 0, 0, b"ok\nok\ncount 0\n", 26),
+    (0, 0, 0, 0, b"ok\nok\ncount 0\n", 17),
     (1, 0, 0, 3, b"", 1),
-    (2, 0, 0, 3, b"", 2),
     (3, 0, 0, 3, b"", 3),
     (4, 0, 0, 3, b"", 4),
-    (20, 0, 0, 3, b"ok\n", 20),
-    (0, 2, 0, 4, b"ok\n", 26),
-    (0, 0, 1, 5, b"", 12),
-    (0, 0, 2, 5, b"ok\nok\ncount 0\n", 26),
+    (5, 0, 0, 3, b"", 5),
+    (15, 0, 0, 3, b"ok\n", 15),
+    (0, 2, 0, 4, b"ok\n", 17),
+    (0, 0, 1, 5, b"", 9),
+    (0, 0, 2, 5, b"ok\nok\ncount 0\n", 17),
 ];
 
 #[test]

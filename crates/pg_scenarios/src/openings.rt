@@ -106,7 +106,7 @@ fn a_run_over_what_a_crash_left_has_the_messages_that_count(rt: HostRuntime) -> 
         (Pick::Fill(1), b"count 3\n"),
     ];
     for (pick, reply) in table {
-        let mut left = stopped(rt.alloc(), 46, pick)?.ok_or("no such call")?;
+        let mut left = stopped(rt.alloc(), 28, pick)?.ok_or("no such call")?;
         assert_eq!(rt; left.told(), b"ok\nok\nsent 1-1\nsent 1-2\n".as_slice());
         let told = left.told().len();
         assert_eq!(rt; run(rt.alloc(), &mut left, b"count Q\n")?, 0);
@@ -209,7 +209,7 @@ fn an_opening_may_be_stopped_at_each_call(rt: HostRuntime) -> Result<(), Fail> {
     ];
     let mut stops = 0u64;
     // A folder that a crash left, and an opening over it that is stopped in turn.
-    let mut opened = stopped(rt.alloc(), 46, Pick::Old)?.ok_or("no such call")?;
+    let mut opened = stopped(rt.alloc(), 28, Pick::Old)?.ok_or("no such call")?;
     assert_eq!(rt; run(rt.alloc(), &mut opened, b"")?, 0);
     for stop in 1..opened.calls().saturating_add(1) {
         for pick in picks {
@@ -226,7 +226,7 @@ fn an_opening_may_be_stopped_at_each_call(rt: HostRuntime) -> Result<(), Fail> {
             stops = stops.saturating_add(1);
         }
     }
-    // Two listings, a sync of the file and one of its scan, the reads, and a batch of five writes and two syncs.
+    // Two listings, a sync of the file and one of its scan, the reads, and a batch of two writes and two syncs.
     assert!(rt; stops > 60);
     Ok(())
 }

@@ -75,8 +75,11 @@ returns-clause-outcome c =
     c.address_entry.ensures ∙ ap₂ (λ (n : ℕ) (name : List ℕ). entry.Address (n + 1) name c.args.settings.max c.args.settings.page c.args.settings.ahead c.args.settings.dup) count c.in_ok-copy.ensures in
     let condition = address_condition d c.args.name c.args.settings.max c.args.settings.page c.args.settings.ahead c.args.settings.dup new few c.requires.1 in
     let fields = address_fields d c.args.name c.args.settings.max c.args.settings.page c.args.settings.ahead c.args.settings.dup few c.requires.0 c.requires.1 in
+    let fit = with_address_fit d c.in_ok-durable.durable c.self.inside.routes c.in_ok-routes.routes c.self.inside.weights.items c.add_weight.new.weights.items c.self.inside.drawn
+    c.args.name c.args.settings.max c.args.settings.page c.args.settings.ahead c.args.settings.dup c.self.invariant condition fields (c.in_ok-durable.ensures.changed ∙ ap (changed d) made)
+    c.in_ok-routes.ensures.addresses c.in_ok-routes.ensures.queues c.in_ok-add_weight.ensures in
     let s : Kept = record { durable = d; drawn = c.self.inside.drawn; ids = c.self.inside.ids } in
     let t : Kept = record { durable = c.in_ok-durable.durable; drawn = c.self.inside.drawn; ids = c.self.inside.ids } in
     subst (λ (k : Kept). IsOutcome k (MakeAddress c.args.name c.args.settings.max c.args.settings.page c.args.settings.ahead c.args.settings.dup) (Changed t c.in_ok-durable.batch Done)) c.self.view_is
     (address_outcome s c.args.name c.args.settings.max c.args.settings.page c.args.settings.ahead c.args.settings.dup t c.in_ok-durable.batch c.self.invariant.sound new few condition fields
-    (c.in_ok-durable.ensures.changed ∙ ap (changed d) made) refl refl (c.in_ok-durable.ensures.batch ∙ ap (λ (e : Entry). batch_bytes (e ∷ [])) made))
+    (c.in_ok-durable.ensures.changed ∙ ap (changed d) made) refl refl (c.in_ok-durable.ensures.batch ∙ ap (λ (e : Entry). batch_bytes (e ∷ [])) made) fit.roomy)

@@ -96,9 +96,11 @@ returns-clause-outcome c =
     let known = known_id d c.args.address c.in-Some.address found in
     let number : d.next < 4294967295 = omega (arith, c.if-queue-ge-QUEUE_NUMBERS.false) in
     let made : c.in_ok-entry.entry ≡ entry.Queue d.next c.in-Some.address c.args.name [] = c.in_ok-entry.ensures ∙ ap (λ (n : List ℕ). entry.Queue d.next c.in-Some.address n []) c.in_ok-copy.ensures in
+    let condition = queue_condition d c.in-Some.address c.args.name c.self.invariant.sound new known.0 known.1 room number in
+    let fields = queue_fields d c.in-Some.address c.args.name c.self.invariant.sound known.1 number c.requires.0 in
+    let fit = with_queue_fit d c.in_ok-durable.durable c.self.inside.routes c.in_ok-routes.routes c.self.inside.weights.items c.self.inside.drawn c.in-Some.address c.args.name c.self.invariant condition fields
+    (c.in_ok-durable.ensures.changed ∙ ap (changed d) made) c.in_ok-routes.ensures.addresses c.in_ok-routes.ensures.queues in
     let t : Kept = record { durable = c.in_ok-durable.durable; drawn = c.self.inside.drawn; ids = c.self.inside.ids } in
     subst (λ (k : Kept). IsOutcome k (queueing c.args.name c.args.address) (Changed t c.in_ok-durable.batch Done)) c.self.view_is
-    (queue_outcome s c.args.name c.args.address new c.in-Some.address found c.self.invariant.sound t c.in_ok-durable.batch room
-    (queue_condition d c.in-Some.address c.args.name c.self.invariant.sound new known.0 known.1 room number)
-    (queue_fields d c.in-Some.address c.args.name c.self.invariant.sound known.1 number c.requires.0)
-    (c.in_ok-durable.ensures.changed ∙ ap (changed d) made) refl refl (c.in_ok-durable.ensures.batch ∙ ap (λ (e : Entry). batch_bytes (e ∷ [])) made))
+    (queue_outcome s c.args.name c.args.address new c.in-Some.address found c.self.invariant.sound t c.in_ok-durable.batch room condition fields
+    (c.in_ok-durable.ensures.changed ∙ ap (changed d) made) refl refl (c.in_ok-durable.ensures.batch ∙ ap (λ (e : Entry). batch_bytes (e ∷ [])) made) fit.roomy)

@@ -1,4 +1,4 @@
-use Rattle.std.proofs.Common.{◌≡◌, ◌≤◌, ℕ, ◌+◌, ◌-◌, ◌∙◌, min, length, map, Some, ap, sym, subst, refl, rules, arith}
+use Rattle.std.proofs.Common.{◌≡◌, ◌≤◌, ℕ, ◌+◌, ◌∙◌, min, length, map, Some, ap, sym, subst, refl, rules, arith}
 use Rattle.pg_msg.specs.declared.message.Message.{Message}
 use Rattle.pg_msg.specs.declared.message.MessageId.{MessageId}
 use Rattle.pg_msg.specs.declared.reply.Reply.TheVariants.{Sent}
@@ -60,11 +60,15 @@ returns-clause-outcome c = λ name named.
     let room : HasRoom d c.args.address = subst (λ (k : Kept). HasRoom k.durable c.args.address) (sym c.self.view_is) c.requires.room in
     let condition = add_condition d c.args.address c.self.inside.drawn c.args.body c.args.queues m c.self.invariant.sound routed c.plain_message-message.ensures c.self.invariant.drawn_all known.0 known.1 in
     let fields : HasFields m = search rules in
+    let kept_fields = add_fields d c.args.address c.self.inside.drawn c.args.body c.args.queues m c.self.invariant.sound routed c.plain_message-message.ensures fields c.requires.in_range c.requires.some known.1 c.requires.short in
+    let light : weight_of m ≤ 102399 = plain_light m id c.args.body c.plain_message-message.ensures c.requires.short in
+    let made : m.id ≡ id = ap (λ (x : Message). x.id) c.plain_message-message.ensures in
+    let fit = with_message_fit d c.self.inside.routes c.self.inside.weights.items c.self.inside.drawn c.args.address c.self.invariant known c.args.queues m room light made c.in_ok-durable.durable
+    (weight_at c.args.address d.journaled + weight_of m) condition kept_fields c.in_ok-durable.ensures.changed refl in
     let at : address_named (names_in d) name ≡ Some c.args.address = ap (λ (k : Kept). address_named (names_in k.durable) name) c.self.view_is ∙ named in
     let names = c.self.inside.routes in
     let weights = c.self.inside.weights.items in
     subst (λ (k : Kept). IsOutcome k (sending name c.args.body) (Changed t c.in_ok-durable.batch (Sent id))) c.self.view_is
     (send_outcome s name c.args.body c.args.address at c.self.invariant.sound (row d names weights c.self.inside.drawn c.args.address c.self.invariant known) (row_there d names weights c.self.inside.drawn c.args.address c.self.invariant known)
     (row_id d names weights c.self.inside.drawn c.args.address c.self.invariant known) c.args.queues m t c.in_ok-durable.batch c.plain_message-message.ensures routed c.requires.some (omega (arith, c.requires.left, ap (λ (k : Kept). k.drawn) c.self.view_is, ap (λ (k : Kept). k.ids) c.self.view_is)) room condition
-    (add_fields d c.args.address c.self.inside.drawn c.args.body c.args.queues m c.self.invariant.sound routed c.plain_message-message.ensures fields c.requires.in_range c.requires.some known.1 c.requires.short)
-    c.in_ok-durable.ensures.changed refl refl c.in_ok-durable.ensures.batch)
+    kept_fields c.in_ok-durable.ensures.changed refl refl c.in_ok-durable.ensures.batch fit.roomy)

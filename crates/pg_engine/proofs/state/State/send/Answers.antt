@@ -1,4 +1,4 @@
-use Rattle.std.proofs.Common.{◌≡◌, ◌≢◌, ℕ, ◌+◌, ◌^◌, ◌∙◌, ◌<◌, List, [], length, map, All, Some, None, ap, sym, subst, arith}
+use Rattle.std.proofs.Common.{◌≡◌, ◌≢◌, ℕ, ◌^◌, ◌∙◌, ◌<◌, List, [], length, map, All, Some, None, ap, sym, subst, arith}
 use Rattle.std.proofs.lemmas.Bool.{both_ways}
 use Rattle.pg_msg.specs.declared.reply.Refusal.TheVariants.{Address, Line}
 use Rattle.pg_msg.specs.declared.reply.Reply.TheVariants.{No, Unrouted}
