@@ -1,8 +1,7 @@
 -- What the engine's own files denote, and a command that appends one batch to the journal.
-use Rattle.std.proofs.Common.{◌≡◌, ◌≢◌, inl, inr, ⊎_elim, ℕ, List, [], ◌∷◌, ◌++◌, Option, Some, Result, Ok, Err, refl, sym, ◌∙◌, ap, subst, append_assoc}
+use Rattle.std.proofs.Common.{◌≡◌, ◌≢◌, inl, inr, ⊎_elim, ℕ, List, [], ◌∷◌, ◌++◌, Option, Some, Result, Ok, Err, refl, sym, ◌∙◌, ap, subst}
 use Rattle.std.specs.Prelude.{IfOk, OnOk, IsErr}
 use Rattle.std.specs.FinMap.{FinMap}
-use Rattle.std.proofs.lemmas.List.{append-nil}
 use Rattle.pg_disk.specs.declared.fault.Fault.{Fault}
 use Rattle.pg_disk.specs.Account.{FileState, Account, account, IsHonest}
 use Rattle.pg_disk.specs.Calls.{Changes, ChangesFile}
@@ -27,6 +26,7 @@ use Rattle.pg_journal.proofs.Saying.{stands_reads, stands_says}
 use Rattle.pg_recover.specs.Broker.{Durable, Step}
 use Rattle.pg_recover.specs.Denotation.{Denotes, FoldsTo, durable_part}
 use Rattle.pg_recover.proofs.WellLemmas.{image_well}
+use Rattle.pg_recover.proofs.EpochLemmas.{spelled_push}
 use Rattle.pg_engine.specs.declared.engine.Engine.{Engine}
 use Rattle.pg_engine.specs.declared.state.Outcome.{Outcome}
 use Rattle.pg_engine.specs.declared.state.Outcome.TheVariants.{Unchanged}
@@ -56,17 +56,6 @@ pub owned_denote : (engine : Engine) (files : FinMap file_cmp FileState) (image 
 owned_denote engine files image owns is =
     spelled_denote (as_left image) owns.batches owns.entries engine.state.durable owns.spelled owns.folded
     (stands_says engine.journal owns.batches files owns.stands image (is (name_of engine.journal)) (λ file kind other. inl (is file)))
-
--- a batch more
-pub spelled_push : (batches : List (List ℕ)) (entries : List Entry) (payload : List ℕ) (more : List Entry) → SpellBatches batches entries → SpellsBatch payload more → SpellBatches (batches ++ payload ∷ []) (entries ++ more)
-spelled_push [] entries payload more none spells = (more, [], spells, refl, ap (λ es. es ++ more) none ∙ sym (append-nil more))
-spelled_push (p ∷ batches) entries payload more spelled spells = (
-  spelled.0,
-  spelled.1 ++ more,
-  spelled.2,
-  spelled_push batches spelled.1 payload more spelled.3 spells,
-  ap (λ es. es ++ more) spelled.4 ∙ append_assoc spelled.0 spelled.1 more,
-)
 
 -- an entry alone is a batch
 pub spells_one : (payload : List ℕ) (entry : Entry) → payload ≡ batch_bytes (entry ∷ []) → HasFields entry → SpellsBatch payload (entry ∷ [])

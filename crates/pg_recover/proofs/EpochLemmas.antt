@@ -33,7 +33,7 @@ use Rattle.pg_recover.proofs.OneState.{folds_to}
 use Rattle.pg_recover.proofs.WellLemmas.{added_keeps, adding_keeps, gone_keeps}
 
 -- a batch more
-spelled_push : (batches : List (List ℕ)) (entries : List Entry) (payload : List ℕ) (more : List Entry) → SpellBatches batches entries → SpellsBatch payload more → SpellBatches (batches ++ payload ∷ []) (entries ++ more)
+pub spelled_push : (batches : List (List ℕ)) (entries : List Entry) (payload : List ℕ) (more : List Entry) → SpellBatches batches entries → SpellsBatch payload more → SpellBatches (batches ++ payload ∷ []) (entries ++ more)
 spelled_push [] entries payload more none spells = (more, [], spells, refl, ap (λ es. es ++ more) none ∙ sym (append-nil more))
 spelled_push (p ∷ batches) entries payload more spelled spells = (
   spelled.0,
