@@ -1,24 +1,23 @@
 -- Files that are well formed stay so, where each file that is no generation keeps what it has, no generation is cut, and the journal gives the state.
-use Rattle.std.proofs.Common.{◌≡◌, ◌≢◌, ◌⊎◌, inl, inr, ⊎_elim, List, [], ◌++◌, ◌∷◌, ℕ, get_or, Option, Some, None, Result, Ok, Err, refl, sym, ◌∙◌, ap, subst, arith}
+use Rattle.std.proofs.Common.{◌≡◌, ◌≢◌, ◌⊎◌, inl, inr, ⊎_elim, List, [], ℕ, get_or, Option, Some, None, Result, Ok, Err, refl, sym, ◌∙◌, ap, subst, arith}
 use Rattle.std.specs.Prelude.{IfOk, OnOk}
 use Rattle.std.specs.FinMap.{FinMap, get}
 use Rattle.std.specs.List.{All}
 use Rattle.std.proofs.lemmas.List.{ext_get_or}
 use Rattle.pg_disk.specs.declared.fault.Fault.{Fault}
 use Rattle.pg_disk.specs.declared.file_id.FileId.{FileId}
-use Rattle.pg_disk.specs.declared.file_id.Kind.{Kind}
 use Rattle.pg_disk.specs.declared.file_id.Kind.TheVariants.{Journal as OfJournal, Large}
 use Rattle.pg_disk.specs.Account.{FileState, Account, account, IsHonest, IsQuiet}
 use Rattle.pg_disk.specs.Files.{file_cmp, Files}
 use Rattle.pg_disk.specs.Image.{IsImage, IsIn, IsLeft, IsLeftAt}
 use Rattle.pg_gate.specs.Gated.{Batches, HasBatches, HasNone}
+use Rattle.pg_gate.proofs.Sealing.{batches_from}
 use Rattle.pg_fold.specs.declared.durable.Durable.{Durable}
 use Rattle.pg_fold.specs.declared.rows.AddressRow.{AddressRow}
 use Rattle.pg_journal.specs.declared.journal.Journal.{Journal}
 use Rattle.pg_journal.specs.Generations.{Contents, as_left, as_read, bytes_of, first_generation, JournalOf}
-use Rattle.pg_journal.specs.Looks.{KeepsGeneration, LeavesJournal, LeavesOldOrNew, ReadsGenerations}
+use Rattle.pg_journal.specs.Looks.{KeepsGeneration, LeavesJournal, ReadsGenerations}
 use Rattle.pg_journal.specs.Stands.{IsQuietAt, Settles, Stands, StaysOrSettles, name_of}
-use Rattle.pg_gate.proofs.Sealing.{batches_from}
 use Rattle.pg_journal.proofs.Order.{generation_or_not, same_or_not}
 use Rattle.pg_journal.proofs.Saying.{stands_reads, stands_there}
 use Rattle.pg_recover.specs.declared.opening.Parts.{Parts}

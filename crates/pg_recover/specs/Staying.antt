@@ -1,5 +1,5 @@
 -- Files that are well formed stay so.
-use Rattle.std.specs.Prelude.{List, ℕ, Option}
+use Rattle.std.specs.Prelude.{Option}
 use Rattle.pg_disk.specs.Account.{Account, account}
 use Rattle.pg_disk.specs.Files.{Files}
 use Rattle.pg_journal.specs.Generations.{as_read, as_left}
