@@ -11,7 +11,7 @@ use Rattle.pg_disk.specs.Account.{FileState, Account, account, IsHonest}
 use Rattle.pg_disk.specs.Image.{IsLeftAt, Leaves, LeavesAt}
 use Rattle.pg_disk.specs.Moments.{Elapses, Within}
 use Rattle.pg_disk.specs.Calls.{Holds, Changes, ChangesFile, There, Wrote, Synced}
-use Rattle.pg_disk.proofs.Runs.{started, goes_on, then_run, Since, since_first, since_then, left_at, left_from, left_weaker, weaker}
+use Rattle.pg_disk.proofs.Runs.{started, goes_on, then_run, since_first, since_then, left_at, left_from, left_weaker, weaker}
 use Rattle.pg_gate.specs.Gated.{opened, HasBatches, HasOldOrNew, RestsAt, StandsFor, Stages}
 use Rattle.pg_gate.specs.declared.log.Rest.{Rest}
 use Rattle.pg_gate.proofs.Sealing.{front_left, front_beside, front_synced, quiet_synced}

@@ -155,10 +155,9 @@ fn what_looks_like_a_batch_is_never_read(rt: HostRuntime) -> Result<(), Fail> {
     assert_eq!(rt; scan_and_append(rt.alloc(), &mut site, b"hi")?, 0);
     let after = b"\x01\0\0\0\0\0\0\0\x02hi\0\0\0\0\0\0\0\0\x01x\0\0";
     assert_eq!(rt; site.bytes(PAGE), Some(after.as_slice()));
-    // The first three calls make the file.
-    let end = site.calls().saturating_add(1);
-    assert!(rt; end > 11);
-    for stop in 4..end {
+    // Three calls make the file, three read it anew, and four add the batch.
+    assert_eq!(rt; site.calls(), 10);
+    for stop in 4..11 {
         for pick in [
             Pick::Old,
             Pick::New,
@@ -174,10 +173,10 @@ fn what_looks_like_a_batch_is_never_read(rt: HostRuntime) -> Result<(), Fail> {
 
 const BATCHES: u64 = 300;
 
-// The bytes of a gated file with these many batches of the payload.
-fn gated(alloc: Global, payload: &[u8]) -> Result<Vec<u8>, AllocError> {
+// The bytes of a gated file with so many batches of the payload.
+fn gated(alloc: Global, batches: u64, payload: &[u8]) -> Result<Vec<u8>, AllocError> {
     let mut bytes = Vec::new(alloc);
-    for _ in 0..BATCHES {
+    for _ in 0..batches {
         bytes.push(1)?;
         bytes.extend_from_slice(&(payload.len() as u64).to_be_bytes())?;
         bytes.extend_from_slice(payload)?;
@@ -211,7 +210,7 @@ fn reads_gates(site: &MemSite, made: u64, syncs: u64) -> bool {
 #[test]
 fn reads_no_payload(rt: HostRuntime) -> Result<(), Fail> {
     let mut site = MemSite::new(rt.alloc());
-    let bytes = gated(rt.alloc(), &[1; 150])?;
+    let bytes = gated(rt.alloc(), BATCHES, &[1; 150])?;
     make(&mut site, &bytes)?;
     let made = site.calls();
     let peeked = peek(rt.alloc(), &mut site, PAGE)?;
@@ -221,5 +220,47 @@ fn reads_no_payload(rt: HostRuntime) -> Result<(), Fail> {
     let (_, scanned) = scan(rt.alloc(), &mut site, PAGE)?;
     assert!(rt; scanned == peeked);
     assert!(rt; reads_gates(&site, made, 1));
+    Ok(())
+}
+
+const WRITE: CallKind = CallKind::Write(PAGE);
+
+const SYNC: CallKind = CallKind::Sync(PAGE);
+
+// The calls of an append, by the length of the batch in bytes.
+const APPENDS: [(usize, &[CallKind]); 4] = [
+    (0, &[WRITE, SYNC, WRITE, SYNC]),
+    (1, &[WRITE, SYNC, WRITE, SYNC]),
+    (4087, &[WRITE, SYNC, WRITE, SYNC]),
+    (4088, &[WRITE, WRITE, WRITE, WRITE, SYNC, WRITE, SYNC]),
+];
+
+// Whether these calls were made behind so many, and no others.
+fn are_calls(site: &MemSite, made: u64, calls: &[CallKind]) -> bool {
+    let mut n = made;
+    for call in calls {
+        n = n.saturating_add(1);
+        if site.call(n) != Some(*call) {
+            return false;
+        }
+    }
+    n == site.calls()
+}
+
+#[test]
+fn a_short_batch_is_written_at_once(rt: HostRuntime) -> Result<(), Fail> {
+    for (length, calls) in APPENDS {
+        let mut site = MemSite::new(rt.alloc());
+        let batch = vec![in rt.alloc(); 7; length]?;
+        let rest = lay(&mut site, PAGE)?;
+        let made = site.calls();
+        rest.append(&mut site, &batch)?;
+        assert!(rt; are_calls(&site, made, calls), "{length} bytes");
+        let bytes = gated(rt.alloc(), 1, &batch)?;
+        assert!(rt;
+            site.bytes(PAGE) == Some(bytes.as_slice()),
+            "{length} bytes"
+        );
+    }
     Ok(())
 }

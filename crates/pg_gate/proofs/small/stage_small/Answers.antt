@@ -7,10 +7,8 @@ returns-in_err-write-clause-any_moment g c =
 
 pub returns-clause-any_moment : goal.returns-clause-any_moment
 returns-clause-any_moment g c =
-    in_write_sync c.args.rest.now c.args.batch.now _ c.fill.ensures.front g.D.Disk.moment g.D.Disk.left_since g.D.Disk.tells c.args.rest.now.file c.args.disk.now (g.met.D.Disk.only_now c.args.disk.now) c.write.new.self c.write.ensures.time c.in_ok-write.ensures.step
-    c.sync.new.self c.sync.ensures.time
+    search (in_write_sync c.args.rest.now c.args.batch.now _ c.fill.ensures.front g.D.Disk.moment g.D.Disk.left_since g.D.Disk.tells c.args.rest.now.file c.args.disk.now (g.met.D.Disk.only_now c.args.disk.now) c.write.new.self c.write.ensures.time c.in_ok-write.ensures.step)
 
 pub returns-clause-staged : goal.returns-clause-staged
 returns-clause-staged g c =
-    all_staged c.args.rest.now c.args.batch.now _ c.fill.ensures.front g.D.Disk.moment g.D.Disk.left_since g.D.Disk.tells c.args.rest.now.file c.args.disk.now (g.met.D.Disk.only_now c.args.disk.now) c.write.new.self c.write.ensures.time c.in_ok-write.ensures.step
-    c.sync.new.self c.sync.result c.sync.ensures.step
+    search (all_staged c.args.rest.now c.args.batch.now _ c.fill.ensures.front g.D.Disk.moment g.D.Disk.left_since g.D.Disk.tells c.args.rest.now.file c.args.disk.now (g.met.D.Disk.only_now c.args.disk.now) c.write.new.self c.write.ensures.time c.in_ok-write.ensures.step)
