@@ -6,9 +6,10 @@ use Rattle.std.specs.List.{All, Contains}
 use Rattle.pg_disk.specs.declared.fault.Fault.{Fault}
 use Rattle.pg_disk.specs.declared.fault.Fault.TheVariants.{Failed, Damaged, Spent, Memory}
 use Rattle.pg_disk.specs.declared.file_id.FileId.{FileId}
+use Rattle.pg_disk.specs.declared.file_id.Kind.TheVariants.{Journal as OfJournal}
 use Rattle.pg_disk.specs.Files.{Files}
 use Rattle.pg_disk.specs.Account.{FileState, Account, account, IsHonest}
-use Rattle.pg_disk.specs.Calls.{Changes}
+use Rattle.pg_disk.specs.Calls.{Changes, ChangesFile}
 use Rattle.pg_disk.specs.Image.{IsFileThere}
 use Rattle.pg_gate.specs.Gated.{opened}
 use Rattle.pg_gate.proofs.Unique.{stands_length}
@@ -25,7 +26,7 @@ use Rattle.pg_recover.specs.Denotation.{FoldsTo, raised}
 use Rattle.pg_recover.specs.Listing.{AreListed}
 use Rattle.pg_recover.specs.Raising.{IsFailedOrMemory, IsReady, IsUnfit, LeavesRaised}
 use Rattle.pg_recover.specs.Recovered.{AllQuiet, AreIllFormed, AreKept, HasNoEpoch, IsBegun, IsIllFormed, IsSpentAt, LeavesOpened, OpensFiles, Owns}
-use Rattle.pg_recover.specs.Removing.{IsOther}
+use Rattle.pg_recover.specs.Removing.{IsOther, RemovesOthers}
 use Rattle.pg_recover.specs.Said.{IsReadFrom, LeavesSaid}
 use Rattle.pg_recover.specs.WellFormed.{AreRoomy, IsGapless, IsNamed, IsThere}
 use Rattle.pg_recover.proofs.OneState.{folds_to, state_is}
@@ -49,6 +50,31 @@ said_leaves old c b left = record {
 pub kept_otherwise : (old new : Option Account) (result : Result Parts Fault) → IfErr result IsFailedOrMemory → IfErr result (AreKept old new)
 kept_otherwise old new (Ok parts) only = tt
 kept_otherwise old new (Err e) only = ⊎_elim (λ is. subst (AreKept old new) (sym is) tt) (λ is. subst (AreKept old new) (sym is) tt) only
+
+pub reads_open : (old mid : Option Account) → Changes old mid ReadsGenerations → Changes old mid OpensFiles
+reads_open old mid stays = record {
+  kept = stays.kept;
+  back = stays.back;
+  step = λ h. let a = stays.step h in record { told = a.told; taken = omega (arith, a.taken); others = λ file kind. ap bytes_of (a.others file kind) };
+}
+
+-- so they are where other generations are removed, and where a batch is added to one
+pub removed_opens : (keep : FileId) (old mid : Option Account) → Changes old mid (RemovesOthers keep) → Changes old mid OpensFiles
+removed_opens keep old mid removed = record {
+  kept = removed.kept;
+  back = removed.back;
+  step = λ h. let a = removed.step h in record { told = a.told; taken = omega (arith, a.taken); others = λ file kind. ap bytes_of (a.kept file (λ other. kind other.0)) };
+}
+
+pub added_opens : (own : FileId) (old mid new : Option Account) → Changes old mid OpensFiles → (IsHonest old → own.kind ≡ OfJournal) → Changes mid new (ChangesFile own (λ _ _. Unit {0})) → Changes old new OpensFiles
+added_opens own old mid new first of_journal added = record {
+  kept = λ h. added.kept (first.kept h);
+  back = λ h. first.back (added.back h);
+  step = λ h.
+      let a = first.step h in
+      let b = added.step (first.kept h) in
+      record { told = b.told ∙ a.told; taken = omega (arith, a.taken, b.taken); others = λ file kind. ap bytes_of (b.others file (λ is. kind (ap (λ (f : FileId). f.kind) is ∙ of_journal h))) ∙ a.others file kind };
+}
 
 pub opens_then : (old mid new : Option Account) → Changes old mid OpensFiles → Changes mid new OpensFiles → Changes old new OpensFiles
 opens_then old mid new first second = record {

@@ -3,8 +3,10 @@ use Rattle.pg_disk.specs.Account.{account, IsHonest}
 use Rattle.pg_disk.specs.Calls.{Changes}
 use Rattle.pg_disk.specs.Moments.{Within}
 use Rattle.pg_disk.proofs.Runs.{started, then_run, weaker}
+use Rattle.pg_journal.specs.Stands.{name_of}
 use Rattle.pg_recover.specs.Removing.{HasNoOther, LeavesOthersGone, ListsOthers, RemovesOthers}
 use Rattle.pg_recover.proofs.EpochLemmas.{added_whole, adding_leaves, gone_leaves, nothing_leaves, owned, stands_still}
+use Rattle.pg_recover.proofs.OpenLemmas.{added_opens, removed_opens}
 use Rattle.pg_recover.proofs.epochs.begin_epoch.Goals as goal
 
 pub encode_batch-requires : goal.encode_batch-requires
@@ -67,3 +69,16 @@ returns-clause-keeps g c = λ honest.
     (subst (λ f. Changes (g.D.Disk.tells c.args.disk.now) (g.D.Disk.tells c.remove_others.new.disk) (RemovesOthers f)) c.file.ensures c.remove_others.ensures.stays)
     (subst (λ f. IsHonest (g.D.Disk.tells c.args.disk.now) → HasNoOther f (account (g.D.Disk.tells c.remove_others.new.disk)).files) c.file.ensures c.in_ok-remove_others.ensures.alone)
     (g.D.Disk.tells c.append.new.disk) c.in_ok-journal.journal c.in_ok-journal.ensures.file c.in_ok-journal.ensures.stands c.in_ok-journal.ensures.other_files honest
+
+pub returns-in_err-remove_others-clause-stays : goal.returns-in_err-remove_others-clause-stays
+returns-in_err-remove_others-clause-stays g c = removed_opens c.file.result (g.D.Disk.tells c.args.disk.now) (g.D.Disk.tells c.remove_others.new.disk) c.remove_others.ensures.stays
+
+pub returns-in_err-journal-clause-stays : goal.returns-in_err-journal-clause-stays
+returns-in_err-journal-clause-stays g c =
+    added_opens (name_of c.args.journal) (g.D.Disk.tells c.args.disk.now) (g.D.Disk.tells c.remove_others.new.disk) (g.D.Disk.tells c.append.new.disk)
+    (removed_opens c.file.result (g.D.Disk.tells c.args.disk.now) (g.D.Disk.tells c.remove_others.new.disk) c.remove_others.ensures.stays) (λ honest. (c.requires.ready honest).stands.kind) c.append.ensures.other_files
+
+pub returns-clause-stays : goal.returns-clause-stays
+returns-clause-stays g c =
+    added_opens (name_of c.args.journal) (g.D.Disk.tells c.args.disk.now) (g.D.Disk.tells c.remove_others.new.disk) (g.D.Disk.tells c.append.new.disk)
+    (removed_opens c.file.result (g.D.Disk.tells c.args.disk.now) (g.D.Disk.tells c.remove_others.new.disk) c.remove_others.ensures.stays) (λ honest. (c.requires.ready honest).stands.kind) c.append.ensures.other_files

@@ -1,7 +1,7 @@
 use Rattle.std.proofs.lemmas.Result.{err_from_is_err_and}
 use Rattle.pg_disk.proofs.Runs.{then_run, weaker}
 use Rattle.pg_recover.proofs.KeptLemmas.{kept_at}
-use Rattle.pg_recover.proofs.OpenLemmas.{all_begun, all_gapless, all_named, all_recovered, check_ill, check_spent, has_epoch, kept_otherwise, raised_leaves, ready, said_leaves}
+use Rattle.pg_recover.proofs.OpenLemmas.{all_begun, all_gapless, all_named, all_recovered, check_ill, check_spent, has_epoch, kept_otherwise, opens_then, raised_leaves, reads_open, ready, said_leaves}
 use Rattle.pg_recover.proofs.RecoverLemmas.{on_ok}
 use Rattle.pg_recover.proofs.WellLemmas.{well_at_ok}
 use Rattle.pg_recover.proofs.opening.open_synced.Goals as goal
@@ -77,3 +77,11 @@ returns-clause-well g c =
     c.begin_epoch.result c.begin_epoch.ensures.keeps
     (all_recovered (g.D.Disk.tells c.args.disk.now) (g.D.Disk.tells c.read_journal.new.disk) c.read_journal.ensures.stays c.in_ok-journal.journal c.in_ok-journal.durable c.in_ok-journal.ensures.found
     (g.D.Disk.tells c.begin_epoch.new.disk) c.begin_epoch.result c.begin_epoch.ensures.raised c.begin_epoch.ensures.owned)
+
+pub returns-in_err-check_state-clause-stays : goal.returns-in_err-check_state-clause-stays
+returns-in_err-check_state-clause-stays g c = reads_open (g.D.Disk.tells c.args.disk.now) (g.D.Disk.tells c.read_journal.new.disk) c.read_journal.ensures.stays
+
+pub returns-clause-stays : goal.returns-clause-stays
+returns-clause-stays g c =
+    opens_then (g.D.Disk.tells c.args.disk.now) (g.D.Disk.tells c.read_journal.new.disk) (g.D.Disk.tells c.begin_epoch.new.disk)
+    (reads_open (g.D.Disk.tells c.args.disk.now) (g.D.Disk.tells c.read_journal.new.disk) c.read_journal.ensures.stays) c.begin_epoch.ensures.stays
