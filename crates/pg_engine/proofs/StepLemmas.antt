@@ -7,6 +7,8 @@ use Rattle.std.proofs.lemmas.Option.{slice_get-map, same_Some}
 use Rattle.pg_disk.specs.declared.fault.Fault.TheVariants.{Spent}
 use Rattle.pg_msg.specs.declared.command.Command.{Command}
 use Rattle.pg_msg.specs.declared.command.Command.TheVariants as command
+use Rattle.pg_msg.specs.declared.properties.Property.{Property}
+use Rattle.pg_msg.specs.Commands.{IsInRange}
 use Rattle.pg_msg.specs.declared.message.Message.{Message}
 use Rattle.pg_msg.specs.declared.reply.Refusal.{Refusal}
 use Rattle.pg_msg.specs.declared.reply.Refusal.TheVariants as refusal
@@ -266,3 +268,14 @@ module _ (s : Kept) where
               (subst (λ (o : Option Queue). MatchOption o ⊥ (λ q. (reply ≡ answer.Count (length q.messages)) × (b ≡ b))) (sym found.2)
               (ap (λ (n : ℕ). answer.Count (length (held_by n d.journaled))) (sym found.1), refl)),
         )
+
+-- each command in its range is one of the four that are built
+pub one_of_four : (c : Command) → IsInRange c → ((name : List ℕ) (max page ahead dup : ℕ) → c ≡ command.Address name max page ahead dup → ⊥)
+    → ((name address : List ℕ) (filter : Option (List ℕ)) → c ≡ command.Queue name address filter → ⊥)
+    → ((address : List ℕ) (tx : Option (List ℕ)) (id : Option (List ℕ)) (properties : List Property) (body : List ℕ) → c ≡ command.Send address tx id properties body → ⊥)
+    → ((queue : List ℕ) → c ≡ command.Count queue → ⊥) → ⊥
+one_of_four (command.Address name max page ahead dup) range no_address no_queue no_send no_count = no_address name max page ahead dup refl
+one_of_four (command.Queue name address filter) range no_address no_queue no_send no_count = no_queue name address filter refl
+one_of_four (command.Send address tx id properties body) range no_address no_queue no_send no_count = no_send address tx id properties body refl
+one_of_four (command.Count queue) range no_address no_queue no_send no_count = no_count queue refl
+one_of_four _ range no_address no_queue no_send no_count = range

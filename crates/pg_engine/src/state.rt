@@ -1,6 +1,7 @@
 // The state of the broker in memory, and what each command does to it.
 ghost use Rattle.std.specs.Prelude.{◌≡◌, ◌≢◌, ◌≤◌, ◌<◌, ◌+◌, ◌^◌, ◌++◌, ◌∷◌, ◌↔◌, [], List, ℕ, map, All, AllPairs, IsTrue, Some, None, IfOk, IfErr, OnOk, length};
 ghost use Rattle.pg_msg.specs.Commands.{IsInRange, longest_body};
+ghost use Rattle.pg_msg.specs.Messages.{HasFields as MessageHasFields};
 ghost use Rattle.pg_records.specs.Entries.{HasFields, batch_bytes};
 ghost use Rattle.pg_fold.specs.Fold.{rule_of, changed};
 ghost use Rattle.pg_fold.specs.Sound.{AreAddresses};
@@ -391,7 +392,8 @@ fn record_entry(alloc: Global, durable: Durable, entry: Entry) -> Result<(Durabl
 
 // A message with a body alone.
 fn plain_message(alloc: Global, id: MessageId, body: Octets) -> Message
-    ensures { result ≡ plain id body }
+    ensures is { result ≡ plain id body }
+    ensures fields { 1 ≤ id.epoch → 1 ≤ id.number → length body ≤ longest_body → MessageHasFields result }
 {
     Message {
         id,

@@ -1,6 +1,7 @@
 pub mod AddressLemmas
 pub mod FoldLaws
 pub mod JournaledLemmas
+pub mod QueueIndexLemmas
 pub mod QueueLemmas
 pub mod SoundAddresses
 pub mod SoundLaws

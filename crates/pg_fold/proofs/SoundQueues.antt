@@ -16,7 +16,7 @@ use Rattle.pg_fold.specs.Sound.{AreQueues}
 use Rattle.pg_fold.proofs.SoundAddresses.{differ, each_fails, still_address}
 
 -- one more counts at its address alone
-count_push : (rows : List QueueRow) (row : QueueRow) (address : ℕ) → queues_at (rows ++ row ∷ []) address ≡ queues_at rows address + cond (row.address == address) 1 0
+pub count_push : (rows : List QueueRow) (row : QueueRow) (address : ℕ) → queues_at (rows ++ row ∷ []) address ≡ queues_at rows address + cond (row.address == address) 1 0
 count_push rows row address = sum_by-append (λ (r : QueueRow). cond (r.address == address) 1 0) rows (row ∷ []) ∙ ap (λ n. queues_at rows address + n) (omega arith)
 
 few_push : (rows : List QueueRow) (row : QueueRow) → ((address : ℕ) → queues_at rows address ≤ most_queues) → queues_at rows row.address < most_queues → (address : ℕ) → queues_at (rows ++ row ∷ []) address ≤ most_queues

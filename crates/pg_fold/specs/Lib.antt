@@ -1,3 +1,4 @@
 pub mod Fold
+pub mod QueueIndex
 pub mod Rows
 pub mod Sound

@@ -77,6 +77,10 @@ AreNumbered rows = (k : ℕ) (other : AddressRow) → k < length rows → (slice
 abbrev pub AreAscending : List QueueRow → Type 0
 AreAscending rows = AllPairs (λ row other. row.id < other.id) rows
 
+-- the queue at the place has the id
+abbrev pub IsPlaceOf : List QueueRow → ℕ → ℕ → Type 0
+IsPlaceOf rows id place = (place < length rows) × ((other : QueueRow) → (slice_index_or rows place other).id ≡ id)
+
 -- the id is above that of the last of the rows
 abbrev pub IsBehind : QueueRow → List QueueRow → Type 0
 IsBehind row rows = (k : ℕ) (other : QueueRow) → k + 1 ≡ length rows → (slice_index_or rows k other).id < row.id

@@ -130,7 +130,7 @@ impl Durable {
     }
 
     fn add_queue(
-        mut self,
+        self,
         queue: u32,
         address: u32,
         name: Text,
@@ -148,14 +148,26 @@ impl Durable {
         {
             return Err(FoldError::Broken(Rule::Name));
         }
-        self.queues.push(QueueRow {
+        let Durable {
+            epoch,
+            addresses,
+            queues,
+            next,
+            journaled,
+        } = self;
+        let row = QueueRow {
             id: queue,
             address,
             name,
             filter,
-        })?;
-        self.next += 1;
-        Ok(self)
+        };
+        Ok(Durable {
+            epoch,
+            addresses,
+            queues: queues.push(row)?,
+            next: next + 1,
+            journaled,
+        })
     }
 
     fn drop_queue(mut self, alloc: Global, queue: u32) -> Result<Durable, FoldError>

@@ -1,7 +1,7 @@
 -- One line: what it does, what is told of its reply, and what a crash within it leaves.
 use Rattle.std.proofs.Common.{◌≡◌, ◌⊎◌, inl, inr, ⊎_elim, ℕ, ◌+◌, ◌≤◌, ◌<◌, List, [], ◌∷◌, ◌++◌, length, take, drop, Bool, true, Option, Result, Ok, Err, refl, sym, ◌∙◌, ap, subst, arith, length-drop, take-append-drop}
 use Rattle.std.proofs.lemmas.List.{append-nil, take_all}
-use Rattle.std.specs.Prelude.{IsErr, IsErrOf, MatchResult}
+use Rattle.std.specs.Prelude.{IfErr, IsErr, IsErrAnd, IsErrOf, MatchResult}
 use Rattle.std.specs.FinMap.{get}
 use Rattle.pg_disk.specs.declared.fault.Fault.{Fault}
 use Rattle.pg_disk.specs.declared.fault.SiteFault.{SiteFault}
@@ -106,6 +106,16 @@ at_err P Q (Err e) failed is = is e
 
 at_err_of : {T E : Type 0} (P : T → Type 0) (Q : E → Type 0) (result : Result T E) (e : E) → IsErrOf result e → Q e → MatchResult result P Q
 at_err_of P Q result e failed is = subst (λ r. MatchResult r P Q) (sym failed) is
+
+-- an error that was handed on is the one that it was
+pub of_residual : {T E : Type 0} (result : Result T E) (e f : E) → IsErr result → IsErrAnd result (λ x. x ≡ e) → e ≡ f → IsErrOf result f
+of_residual (Ok x) e f failed is same = cc
+of_residual (Err x) e f failed is same = ap Err (is ∙ same)
+
+-- what holds of an error holds less strictly
+pub err_weaker : {T E : Type 0} (P Q : E → Type 0) → ((e : E) → P e → Q e) → (result : Result T E) → IfErr result P → IfErr result Q
+err_weaker P Q weaker (Ok x) is = tt
+err_weaker P Q weaker (Err e) is = weaker e is
 
 -- no part is told
 no_part : (fault : SiteFault) (part : List ℕ) → part ≡ [] → IsPartOf fault part

@@ -103,7 +103,7 @@ pub record IsUnopened (epochs : ℕ) (old new : Option Account) : Type 0 where
   pub kept : Changes old new KeepsFiles
 
 -- The same of a run that begins with opening, from what the files denote. A crash is spoken of where nothing was pending at the beginning, and where
--- something was from some moment on, if the opening came to its end.
+-- something was from some moment on, at the statuses that come only behind an opening that came to its end.
 pub record RanOpened {D : Type 0} (unopened : Type 0) (moment : D → ℕ) (left_since : D → ℕ → Files → List ℕ → Type 0) (tells : D → Option Account) (ids limit : ℕ) (rest_old rest_new : Option (List ℕ)) (old new : D) (status : ℕ) : Type 0 where
   pub read : List ℕ
   pub whole : List (List ℕ)

@@ -1,11 +1,11 @@
-use Rattle.std.proofs.Common.{List, ℕ, ◌≡◌, ◌∙◌, true, refl, rules, subst}
+use Rattle.std.proofs.Common.{List, ℕ, ◌≡◌, ◌∙◌, true, refl, subst}
 use Rattle.std.specs.Prelude.{is_ok}
 use Rattle.pg_disk.specs.Calls.{Changes, Emits}
 use Rattle.pg_disk.specs.Image.{LeavesPrefix}
 use Rattle.pg_disk.specs.Moments.{Within}
 use Rattle.pg_text.specs.Replies.{reply_line}
 use Rattle.pg_engine.specs.Executed.{state_of}
-use Rattle.pg_run.proofs.AnswerLemmas.{answers_err, answers_sink, gave_up, executed, interrupted, half_told, answered}
+use Rattle.pg_run.proofs.AnswerLemmas.{answers_err, answers_sink, of_residual, gave_up, executed, interrupted, half_told, answered}
 use Rattle.pg_run.proofs.answer.answer.Goals as goal
 
 pub returns-in_err-engine-clause-answers : goal.returns-in_err-engine-clause-answers
@@ -25,7 +25,7 @@ pub returns-in_err-tell-clause-answers : goal.returns-in_err-tell-clause-answers
 returns-in_err-tell-clause-answers g c honest =
     let done = executed g.S.Disk.moment g.S.Disk.left_since g.S.Disk.tells c.args.site.now (state_of c.args.engine) c.args.line.now honest c.exec_line.new.disk c.in_ok-engine.engine c.in_ok-engine.reply (c.in_ok-engine.ensures.executes honest) in
     let same : c.as_slice.result.now ≡ reply_line c.in_ok-engine.reply = c.as_slice.ensures.value ∙ c.in_ok-text.ensures in
-    answers_sink g.S.Disk.moment g.S.Disk.left_since g.S.Disk.tells c.args.site.now (state_of c.args.engine) c.args.line.now honest c.tell.new.site _ (search (rules, c.from_residual-in_err-tell.ensures, c.in_err-tell.ensures.only_sink))
+    answers_sink g.S.Disk.moment g.S.Disk.left_since g.S.Disk.tells c.args.site.now (state_of c.args.engine) c.args.line.now honest c.tell.new.site _ (of_residual c.from_residual-in_err-tell.result c.in_err-tell.field-0.0 _ c.from_residual-in_err-tell.ensures.0 c.from_residual-in_err-tell.ensures.1 c.in_err-tell.ensures.only_sink)
     (half_told g.S.Disk.moment g.S.Disk.left_since g.S.Disk.tells c.args.site.now (state_of c.args.engine) c.args.line.now honest done.item done.reads c.in_ok-engine.reply done.next done.step c.exec_line.new.disk done.moments done.told
     c.in_ok-engine.engine done.stands done.stays c.tell.new.site (subst (λ (l : List ℕ). Within g.S.Disk.moment g.S.Disk.left_since c.exec_line.new.disk c.tell.new.site (LeavesPrefix l (g.S.Disk.tells c.exec_line.new.disk))) same c.tell.ensures.any_moment)
     _ (subst (λ (l : List ℕ). Changes (g.S.Disk.tells c.exec_line.new.disk) (g.S.Disk.tells c.tell.new.site) (Emits l (is_ok c.tell.result))) same c.tell.ensures.told))

@@ -2,6 +2,7 @@ use Rattle.std.proofs.Common.{ℕ, [], ◌∷◌, subst, sym}
 use Rattle.pg_disk.specs.declared.fault.SiteFault.TheVariants.{Disk}
 use Rattle.pg_run.specs.declared.run.Stop.TheVariants.{Site}
 use Rattle.pg_run.specs.Ran.{IsUnopened, RanOpened, IsAnyBut, status_of}
+use Rattle.pg_run.proofs.AnswerLemmas.{err_weaker}
 use Rattle.pg_run.proofs.Ending.{status_err}
 use Rattle.pg_run.proofs.ServingLemmas.{failed_denoted, opened_ran, opens_denoted, spent_unopened, unopened_ran}
 use Rattle.pg_run.proofs.serving.run.Goals as goal
@@ -23,3 +24,6 @@ pub returns-clause-ran : goal.returns-clause-ran
 returns-clause-ran g c =
     opened_ran g.S.Disk.moment g.S.Disk.left_since g.S.Disk.tells c.args.site.now (IsUnopened c.args.limits.now.epochs (g.S.Disk.tells c.args.site.now) (g.S.Disk.tells c.answer_lines.new.site)) c.args.limits.now.ids c.in_ok-engine.engine c.args.limits.now.input (g.R.Source.rest c.args.source.now) (g.R.Source.rest c.answer_lines.new.source)
     c.open.new.disk c.answer_lines.new.site (status_of c.answer_lines.result) c.in_ok-engine.ensures.opens c.open.ensures.stays c.answer_lines.ensures.ran c.open.ensures.any_moment c.in_ok-engine.ensures.once_quiet
+
+pub returns-clause-damaged : goal.returns-clause-damaged
+returns-clause-damaged g c = err_weaker _ _ (λ stop never damaged. absurd (never damaged)) c.answer_lines.result c.answer_lines.ensures.never_damaged
