@@ -7,7 +7,7 @@ use std::alloc::{AllocError, Global};
 use std::marker::Model;
 
 /// A string of bytes, which contracts see as the list of them.
-#[derive(Debug, Drop)]
+#[derive(Debug)]
 pub struct Octets {
     bytes: Vec<u8>,
 }
@@ -18,6 +18,12 @@ impl Model for Octets {
     ghost Value = { List ℕ };
 
     ghost view = { λ octets. octets.bytes.items };
+}
+
+impl Drop for Octets {
+    fn drop(self) {
+        let Octets { bytes: _bytes } = self;
+    }
 }
 
 impl Octets {
@@ -50,7 +56,8 @@ impl Octets {
     pub fn into_vec(self) -> Vec<u8>
         ensures { result.items ≡ self }
     {
-        self.bytes
+        let Octets { bytes } = self;
+        bytes
     }
 
     /// The bytes as a slice.

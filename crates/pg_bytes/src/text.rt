@@ -7,7 +7,7 @@ use std::alloc::{AllocError, Global};
 use std::marker::Model;
 
 /// A text in UTF-8, which contracts see as the list of its bytes.
-#[derive(Debug, Drop)]
+#[derive(Debug)]
 pub struct Text {
     string: String,
 }
@@ -18,6 +18,12 @@ impl Model for Text {
     ghost Value = { List ℕ };
 
     ghost view = { λ text. string_bytes text.string };
+}
+
+impl Drop for Text {
+    fn drop(self) {
+        let Text { string: _string } = self;
+    }
 }
 
 impl Text {
@@ -41,7 +47,8 @@ impl Text {
     pub fn into_string(self) -> String
         ensures { string_bytes result ≡ self }
     {
-        self.string
+        let Text { string } = self;
+        string
     }
 
     /// The text as a borrowed string.

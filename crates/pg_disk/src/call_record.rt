@@ -68,13 +68,23 @@ impl Event {
 }
 
 /// The events in their order. The calls among them are counted from 1, and so are the emits.
-#[derive(Debug, Drop)]
+#[derive(Debug)]
 pub struct CallRecord {
     events: Vec<Event>,
     calls: Vec<CallKind>,
     emits: u64,
     ghost calls_of_events: { calls.items ≡ filter_map call_of events.items },
     ghost emits_of_events: { emits ≡ count_by is_emit events.items },
+}
+
+impl Drop for CallRecord {
+    fn drop(self) {
+        let CallRecord {
+            events: _events,
+            calls: _calls,
+            emits: _emits,
+        } = self;
+    }
 }
 
 impl CallRecord {

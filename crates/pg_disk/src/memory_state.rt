@@ -16,7 +16,7 @@ use std::collections::BTreeMap;
 
 /// Files and output in memory. Each method records what it does, and changes nothing where it has no memory for that.
 /// A `done` of false is for a call that is to fail: it is recorded, and nothing else.
-#[derive(Debug, Drop)]
+#[derive(Debug)]
 pub struct MemoryState {
     alloc: Global,
     history: CallRecord,
@@ -24,6 +24,17 @@ pub struct MemoryState {
     told: Vec<u8>,
     ghost contents_of_history: { HasContents contents (replay start history.events.items).files },
     ghost told_of_history: { told.items ≡ (replay start history.events.items).told },
+}
+
+impl Drop for MemoryState {
+    fn drop(self) {
+        let MemoryState {
+            alloc: _alloc,
+            history: _history,
+            contents: _contents,
+            told: _told,
+        } = self;
+    }
 }
 
 impl MemoryState {

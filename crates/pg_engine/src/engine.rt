@@ -15,10 +15,19 @@ use pg_recover::Parts;
 use std::alloc::{AllocError, Global};
 
 /// A broker over its journal.
-#[derive(Drop)]
 pub struct Engine {
     pub(crate) journal: Journal,
     pub(crate) state: State,
+}
+
+// Written out, so that what holds an engine lets it go by one call.
+impl Drop for Engine {
+    fn drop(self) {
+        let Engine {
+            journal: _journal,
+            state: _state,
+        } = self;
+    }
 }
 
 impl Engine {

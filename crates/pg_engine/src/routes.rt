@@ -9,10 +9,18 @@ use std::alloc::{AllocError, Global};
 use std::marker::Model;
 
 // An address: its id, and the numbers of its queues.
-#[derive(Drop)]
 pub(crate) struct AddressEntry {
     pub(crate) id: u32,
     pub(crate) queues: Vec<u32>,
+}
+
+impl Drop for AddressEntry {
+    fn drop(self) {
+        let AddressEntry {
+            id: _id,
+            queues: _queues,
+        } = self;
+    }
 }
 
 // A queue: its number, and the id of its address.
@@ -24,7 +32,6 @@ pub(crate) struct QueueEntry {
 
 /// The addresses and the live queues by name, in the order of their making. A name is found without a walk over them, and so
 /// are the queues of an address. A call that takes them by value fails only for want of memory.
-#[derive(Drop)]
 pub struct Routes {
     addresses: IndexMap<String, AddressEntry>,
     queues: IndexMap<String, QueueEntry>,
@@ -38,6 +45,16 @@ impl Model for Routes {
     ghost view = { λ routes. names_of routes.addresses.entries routes.queues.entries };
 
     ghost invariant = { λ routes. IsListing routes.addresses.entries routes.queues.entries };
+}
+
+// Written out, so that what holds the names lets them go by one call.
+impl Drop for Routes {
+    fn drop(self) {
+        let Routes {
+            addresses: _addresses,
+            queues: _queues,
+        } = self;
+    }
 }
 
 impl Routes {

@@ -44,7 +44,6 @@ pub struct Settings {
 
 /// The state of the broker in memory: the folded state, the names in it by hash, the bytes of the messages of each address,
 /// and the ids that were drawn.
-#[derive(Drop)]
 pub struct State {
     durable: Durable,
     routes: Routes,
@@ -61,6 +60,19 @@ impl Model for State {
     ghost view = { λ i. record { durable = i.durable; drawn = i.drawn; ids = i.ids } };
 
     ghost invariant = { λ i. IsFit i.durable i.routes i.weights.items i.drawn };
+}
+
+// Written out, so that what holds a state lets it go by one call.
+impl Drop for State {
+    fn drop(self) {
+        let State {
+            durable: _durable,
+            routes: _routes,
+            weights: _weights,
+            drawn: _drawn,
+            ids: _ids,
+        } = self;
+    }
 }
 
 /// What a command does.

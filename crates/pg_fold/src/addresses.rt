@@ -10,7 +10,7 @@ use std::marker::Model;
 /// The addresses, in the order of their making. They are never removed, so the id of each is its place, from 1.
 ///
 /// A name is looked for by a walk over all of them, for now.
-#[derive(Debug, Drop)]
+#[derive(Debug)]
 pub struct AddressRows {
     rows: Vec<AddressRow>,
 }
@@ -25,6 +25,12 @@ impl Model for AddressRows {
     ghost view = { λ addresses. addresses.rows.items };
 
     ghost invariant = { λ addresses. AreNumbered addresses.rows.items };
+}
+
+impl Drop for AddressRows {
+    fn drop(self) {
+        let AddressRows { rows: _rows } = self;
+    }
 }
 
 impl AddressRows {

@@ -24,7 +24,7 @@ const MOST_QUEUES: usize = 1000;
 const QUEUE_IDS: u32 = 4_294_967_295;
 
 /// What outlives a run, as the journal's entries give it. `docs/FORMATS.md` has the condition and the effect of each.
-#[derive(Debug, Drop)]
+#[derive(Debug)]
 pub struct Durable {
     /// The epoch of the last opening, 0 before the first.
     pub epoch: u32,
@@ -33,6 +33,19 @@ pub struct Durable {
     /// The id that the next queue gets.
     pub next: u32,
     pub journaled: JournaledRows,
+}
+
+// Written out, so that what holds a state lets it go by one call.
+impl Drop for Durable {
+    fn drop(self) {
+        let Durable {
+            epoch: _epoch,
+            addresses: _addresses,
+            queues: _queues,
+            next: _next,
+            journaled: _journaled,
+        } = self;
+    }
 }
 
 impl Durable {

@@ -11,7 +11,7 @@ use std::marker::Model;
 ///
 /// A message that is newer than all before it is known to be new without a look at them. An acknowledgement looks for its
 /// message from the front on, and moves those behind it where it is taken out, for now.
-#[derive(Debug, Drop)]
+#[derive(Debug)]
 pub struct JournaledRows {
     rows: Vec<JournaledRow>,
     // No id is above this one.
@@ -28,6 +28,15 @@ impl Model for JournaledRows {
     ghost view = { λ journaled. journaled.rows.items };
 
     ghost invariant = { λ journaled. AreUpTo journaled.greatest journaled.rows.items };
+}
+
+impl Drop for JournaledRows {
+    fn drop(self) {
+        let JournaledRows {
+            rows: _rows,
+            greatest: _greatest,
+        } = self;
+    }
 }
 
 impl JournaledRows {

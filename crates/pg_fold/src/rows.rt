@@ -4,7 +4,7 @@ use pg_bytes::Text;
 use pg_msg::{Message, QueueIds};
 
 /// An address. `docs/FORMATS.md` gives the ranges of the settings.
-#[derive(Debug, PartialEq, Eq, Drop)]
+#[derive(Debug, PartialEq, Eq)]
 pub struct AddressRow {
     /// Its place among the addresses, from 1.
     pub id: u32,
@@ -21,8 +21,22 @@ pub struct AddressRow {
     pub first: u64,
 }
 
+impl Drop for AddressRow {
+    fn drop(self) {
+        let AddressRow {
+            id: _id,
+            name: _name,
+            max: _max,
+            page: _page,
+            ahead: _ahead,
+            dup: _dup,
+            first: _first,
+        } = self;
+    }
+}
+
 /// A live queue.
-#[derive(Debug, PartialEq, Eq, Drop)]
+#[derive(Debug, PartialEq, Eq)]
 pub struct QueueRow {
     pub id: u32,
     /// The id of its address.
@@ -32,12 +46,33 @@ pub struct QueueRow {
     pub filter: Text,
 }
 
+impl Drop for QueueRow {
+    fn drop(self) {
+        let QueueRow {
+            id: _id,
+            address: _address,
+            name: _name,
+            filter: _filter,
+        } = self;
+    }
+}
+
 /// A message that is held in the journal.
-#[derive(Debug, PartialEq, Eq, Drop)]
+#[derive(Debug, PartialEq, Eq)]
 pub struct JournaledRow {
     /// The id of its address.
     pub address: u32,
     pub message: Message,
     /// The ids of the queues that hold it, in the order in which the entry named them.
     pub holders: QueueIds,
+}
+
+impl Drop for JournaledRow {
+    fn drop(self) {
+        let JournaledRow {
+            address: _address,
+            message: _message,
+            holders: _holders,
+        } = self;
+    }
 }

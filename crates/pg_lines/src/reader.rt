@@ -13,7 +13,6 @@ const BUFFER_LEN: usize = 65_536;
 const MOST_KEPT: usize = 1_048_577;
 
 /// Reads lines of a source through a buffer, up to a limit of bytes.
-#[derive(Drop)]
 pub struct LineReader {
     /// What was read and not given yet stands in `from..to`.
     pub(crate) buffer: Vec<u8>,
@@ -24,6 +23,17 @@ pub struct LineReader {
     ghost ordered: { from ≤ to },
     ghost in_buffer: { to ≤ vec_len buffer },
     ghost has_room: { 0 < vec_len buffer },
+}
+
+impl Drop for LineReader {
+    fn drop(self) {
+        let LineReader {
+            buffer: _buffer,
+            from: _from,
+            to: _to,
+            left: _left,
+        } = self;
+    }
 }
 
 impl LineReader {

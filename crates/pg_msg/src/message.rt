@@ -35,7 +35,7 @@ impl Body {
 }
 
 /// A message as it is kept. `docs/FORMATS.md` gives its bytes.
-#[derive(Debug, PartialEq, Eq, Drop)]
+#[derive(Debug, PartialEq, Eq)]
 pub struct Message {
     pub id: MessageId,
     /// The duplicate id that the sender gave it, of 1 to 64 bytes.
@@ -43,6 +43,17 @@ pub struct Message {
     /// In the order of sending.
     pub properties: Properties,
     pub body: Body,
+}
+
+impl Drop for Message {
+    fn drop(self) {
+        let Message {
+            id: _id,
+            dup: _dup,
+            properties: _properties,
+            body: _body,
+        } = self;
+    }
 }
 
 impl Message {

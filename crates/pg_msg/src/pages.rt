@@ -5,7 +5,7 @@ use std::alloc::{AllocError, Global};
 use std::marker::Model;
 
 /// For each of some addresses, its id and the last of its pages that has a message of a transaction.
-#[derive(Debug, Drop)]
+#[derive(Debug)]
 pub struct Pages {
     rows: Vec<(u32, u64)>,
 }
@@ -16,6 +16,12 @@ impl Model for Pages {
     ghost Value = { List (ℕ × ℕ) };
 
     ghost view = { λ pages. pages.rows.items };
+}
+
+impl Drop for Pages {
+    fn drop(self) {
+        let Pages { rows: _rows } = self;
+    }
 }
 
 impl Pages {

@@ -15,11 +15,20 @@ pub enum Value {
 }
 
 /// A property of a message, which filters look at.
-#[derive(Debug, PartialEq, Eq, Drop)]
+#[derive(Debug, PartialEq, Eq)]
 pub struct Property {
     /// Of 1 to 64 bytes. `docs/FORMATS.md` says how it is spelled.
     pub name: Text,
     pub value: Value,
+}
+
+impl Drop for Property {
+    fn drop(self) {
+        let Property {
+            name: _name,
+            value: _value,
+        } = self;
+    }
 }
 
 impl Value {
@@ -46,7 +55,7 @@ impl Property {
 }
 
 /// Properties, in an order.
-#[derive(Debug, Drop)]
+#[derive(Debug)]
 pub struct Properties {
     items: Vec<Property>,
 }
@@ -58,6 +67,12 @@ impl Model for Properties {
     ghost Value = { List Property };
 
     ghost view = { λ properties. properties.items.items };
+}
+
+impl Drop for Properties {
+    fn drop(self) {
+        let Properties { items: _items } = self;
+    }
 }
 
 impl Properties {

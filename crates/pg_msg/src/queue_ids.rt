@@ -7,7 +7,7 @@ use std::alloc::{AllocError, Global};
 use std::marker::Model;
 
 /// The ids of queues, in an order.
-#[derive(Debug, Drop)]
+#[derive(Debug)]
 pub struct QueueIds {
     numbers: Vec<u32>,
 }
@@ -18,6 +18,12 @@ impl Model for QueueIds {
     ghost Value = { List ℕ };
 
     ghost view = { λ ids. ids.numbers.items };
+}
+
+impl Drop for QueueIds {
+    fn drop(self) {
+        let QueueIds { numbers: _numbers } = self;
+    }
 }
 
 impl QueueIds {
@@ -41,7 +47,8 @@ impl QueueIds {
     pub fn into_vec(self) -> Vec<u32>
         ensures { result.items ≡ self }
     {
-        self.numbers
+        let QueueIds { numbers } = self;
+        numbers
     }
 
     /// The numbers as a slice.
