@@ -1,1 +1,1 @@
-pub mod FileName
+pub mod Names

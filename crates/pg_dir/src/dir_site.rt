@@ -29,6 +29,20 @@ impl<R: Files<File = File> + AllocGlobal + Clone + Drop, W: Write + Drop> DirSit
             output_faults: 0,
         }
     }
+
+    /// How many calls of the disk failed so far.
+    pub fn disk_faults(&self) -> u64
+        ensures { result ≡ self.now.disk_faults }
+    {
+        self.disk_faults
+    }
+
+    /// How many pieces of output were not taken whole so far.
+    pub fn output_faults(&self) -> u64
+        ensures { result ≡ self.now.output_faults }
+    {
+        self.output_faults
+    }
 }
 
 // The outcome as the traits have it, and the count of the device that gave it.
@@ -106,6 +120,3 @@ impl<R: Files<File = File> + AllocGlobal + Clone + Drop, W: Write + Drop> Site f
         counted(&mut self.output_faults, outcome)
     }
 }
-
-#[cfg(test)]
-mod tests;

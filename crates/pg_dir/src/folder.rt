@@ -2,7 +2,7 @@
 ghost use Rattle.std.specs.Prelude.{◌≤◌, ◌<◌, IfOk, OnOk, IsSorted, length, vec_len};
 ghost use Rattle.pg_disk.specs.Files.{file_cmp};
 
-use crate::file_name::{file_id, file_name};
+use crate::names::{file_id, file_name};
 use pg_disk::FileId;
 use std::alloc::{AllocError, Global};
 use std::fs::{self, File, OpenOptions};
@@ -24,7 +24,7 @@ struct OpenFile {
 pub(crate) struct Folder<R: Files<File = File>> {
     runtime: R,
     path: String,
-    // The directory, once something in it was created or removed.
+    // The directory, locked, from the first call that asks something of it.
     directory: Option<File>,
     // The files that are open, the oldest first.
     files: Vec<OpenFile>,
@@ -48,10 +48,12 @@ impl<R: Files<File = File> + AllocGlobal + Clone + Drop> Folder<R> {
 
     /// The broker's files, ascending. What isn't a plain file and what has another name is passed over, but a name that
     /// isn't UTF-8 is an error.
-    pub(crate) fn list(&self, alloc: Global) -> io::Result<Vec<FileId>>
+    pub(crate) fn list(&mut self, alloc: Global) -> io::Result<Vec<FileId>>
         ensures ascending { IfOk result (λ ids. IsSorted file_cmp ids.items) }
     {
-        uninterrupted(|| self.list_once(alloc))
+        self.lock()?;
+        let folder = &*self;
+        uninterrupted(|| folder.list_once(alloc))
     }
 
     fn list_once(&self, alloc: Global) -> io::Result<Vec<FileId>>
@@ -99,6 +101,7 @@ impl<R: Files<File = File> + AllocGlobal + Clone + Drop> Folder<R> {
 
     /// Makes an empty file where there is none of its name.
     pub(crate) fn create(&mut self, id: FileId) -> io::Result<()> {
+        self.lock()?;
         let path = self.path_of(id)?;
         let file = File::create_new(&self.runtime, path.as_str())?;
         self.keep(id, file)?;
@@ -106,6 +109,7 @@ impl<R: Files<File = File> + AllocGlobal + Clone + Drop> Folder<R> {
     }
 
     pub(crate) fn remove(&mut self, id: FileId) -> io::Result<()> {
+        self.lock()?;
         let path = self.path_of(id)?;
         self.files.retain(|opened| opened.id != id);
         let runtime = &self.runtime;
@@ -127,6 +131,7 @@ impl<R: Files<File = File> + AllocGlobal + Clone + Drop> Folder<R> {
         if let Some(place) = self.files.iter().position(|opened| opened.id == id) {
             return Ok(place);
         }
+        self.lock()?;
         let path = self.path_of(id)?;
         let file = OpenOptions::new()
             .read(true)
@@ -149,13 +154,22 @@ impl<R: Files<File = File> + AllocGlobal + Clone + Drop> Folder<R> {
         Ok(place)
     }
 
+    // Opens the directory and locks it, where this isn't done yet. The lock is the system's advisory one. It is refused
+    // while another site has it, and is gone once this one lets the directory go, also where the process is killed.
+    fn lock(&mut self) -> io::Result<()> {
+        if self.directory.is_none() {
+            let directory = File::open(&self.runtime, self.path.as_str())?;
+            directory.try_lock()?;
+            self.directory = Some(directory);
+        }
+        Ok(())
+    }
+
     fn sync_directory(&mut self) -> io::Result<()> {
-        let directory = match self.directory.take() {
-            Some(directory) => directory,
-            None => File::open(&self.runtime, self.path.as_str())?,
+        let outcome = match &self.directory {
+            Some(directory) => directory.sync_all(),
+            None => Err(io::Error::from(ErrorKind::NotFound)),
         };
-        let outcome = directory.sync_all();
-        self.directory = Some(directory);
         self.synced(outcome)
     }
 

