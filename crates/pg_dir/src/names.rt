@@ -1,6 +1,6 @@
 // The names of the files in a directory.
-ghost use Rattle.std.specs.Prelude.{◌≡◌, ◌≢◌, ◌≤◌, ◌<◌, ◌++◌, IfOk, IfSome, string_bytes, codes, decimal};
-ghost use Rattle.pg_dir.specs.Names.{name_of, IsNamed};
+ghost use Rattle.std.specs.Prelude.{◌≡◌, ◌≢◌, ◌≤◌, ◌<◌, ◌^◌, ◌++◌, IfOk, IfSome, IfNone, string_bytes, codes, decimal};
+ghost use Rattle.pg_dir.specs.Names.{name_of, IsNamed, IsNoName, IsNoNumber, IsNoOwned};
 
 use pg_disk::{FileId, Kind};
 use std::alloc::{AllocError, Global};
@@ -29,6 +29,7 @@ pub fn file_name(alloc: Global, file: FileId) -> Result<String, AllocError>
 pub fn file_id(name: &str) -> Option<FileId>
     ensures named { IfSome result IsNamed }
     ensures sound { IfSome result (λ file. name.now ≡ name_of file) }
+    ensures none { IfNone result (IsNoName name.now) }
 {
     let (letter, rest) = name.split_once('-')?;
     match letter {
@@ -43,6 +44,7 @@ fn journal(number: &str) -> Option<FileId>
     ensures named { IfSome result IsNamed }
     ensures kind { IfSome result (λ file. file.kind ≡ Kind.Journal) }
     ensures sound { IfSome result (λ file. number.now ≡ decimal file.number) }
+    ensures none { IfNone result (IsNoNumber (2 ^ 62) number.now) }
 {
     Some(FileId {
         kind: Kind::Journal,
@@ -58,6 +60,7 @@ fn owned(kind: Kind, text: &str, ending: &str) -> Option<FileId>
     ensures kind { IfSome result (λ file. file.kind ≡ kind) }
     ensures sound { IfSome result (λ file.
         text.now ≡ decimal file.owner ++ (codes "-" ++ (decimal file.number ++ (codes "." ++ ending.now)))) }
+    ensures none { IfNone result (IsNoOwned ending.now text.now) }
 {
     let (owner, rest) = text.split_once('-')?;
     let (number, found) = rest.split_once('.')?;
@@ -76,6 +79,7 @@ fn positive_decimal(digits: &str, greatest: u64) -> Option<u64>
     ensures from_one { IfSome result (λ number. 0 < number) }
     ensures most { IfSome result (λ number. number ≤ greatest) }
     ensures sound { IfSome result (λ number. digits.now ≡ decimal number) }
+    ensures none { IfNone result (IsNoNumber greatest digits.now) }
 {
     if digits.starts_with('0') || digits.starts_with('+') {
         return None;
