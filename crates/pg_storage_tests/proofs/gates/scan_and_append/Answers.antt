@@ -2,7 +2,7 @@ use Rattle.std.proofs.Common.{subst, sym}
 use Rattle.std.specs.FinMap.{get}
 use Rattle.pg_disk.specs.Account.{account}
 use Rattle.pg_gate.specs.Gated.{StandsFor}
-use Rattle.pg_gate.proofs.tests.scan_and_append.Goals as goal
+use Rattle.pg_storage_tests.proofs.gates.scan_and_append.Goals as goal
 
 pub append-requires : goal.append-requires
 append-requires g c honest =

@@ -1,7 +1,8 @@
-use crate::Journal;
+// The journal.
 use pg_bytes::Octets;
 use pg_disk::{Damage, Disk, Fault, FileId, Kind, MemSite, Rule};
 use pg_gate::Span;
+use pg_journal::Journal;
 use std::alloc::{AllocError, Global};
 use std::test::Fail;
 
@@ -144,17 +145,27 @@ fn is_as(
     }
 }
 
+// Whether the journal is found in these files as it is to be.
+fn is_found(alloc: Global, case: Case<'_>) -> Result<bool, AllocError> {
+    let (files, want, after) = case;
+    let mut site = site_of(alloc, files)?;
+    let found = Journal::find(alloc, &mut site).map(|(journal, spans)| (journal.file(), spans));
+    Ok(is_as(found, want) && has(alloc, &mut site, after))
+}
+
+// The first case in which it is found otherwise.
+fn wrong_find(alloc: Global) -> Result<Option<usize>, AllocError> {
+    for (place, case) in CASES.iter().enumerate() {
+        if !is_found(alloc, *case)? {
+            return Ok(Some(place));
+        }
+    }
+    Ok(None)
+}
+
 #[test]
 fn finds_the_journal(rt: HostRuntime) -> Result<(), Fail> {
-    for (files, want, after) in CASES {
-        let mut site = site_of(rt.alloc(), files)?;
-        let found = Journal::find(rt.alloc(), &mut site).map(|(journal, spans)| (
-            journal.file(),
-            spans,
-        ));
-        assert!(rt; is_as(found, want), "{files:?}");
-        assert!(rt; has(rt.alloc(), &mut site, after), "{files:?}");
-    }
+    assert!(rt; wrong_find(rt.alloc())? == None);
     Ok(())
 }
 
@@ -170,28 +181,44 @@ fn peeks_as(
     }
 }
 
+// Whether a peek at these files answers as it is to, and leaves them.
+fn is_peeked(alloc: Global, case: Case<'_>) -> Result<bool, AllocError> {
+    let (files, want, _) = case;
+    let mut site = site_of(alloc, files)?;
+    let found = Journal::peek(alloc, &mut site);
+    Ok(peeks_as(found, want) && has(alloc, &mut site, files))
+}
+
+// The first case in which it is peeked at otherwise.
+fn wrong_peek(alloc: Global) -> Result<Option<usize>, AllocError> {
+    for (place, case) in CASES.iter().enumerate() {
+        if !is_peeked(alloc, *case)? {
+            return Ok(Some(place));
+        }
+    }
+    Ok(None)
+}
+
 #[test]
 fn peeks_at_the_journal(rt: HostRuntime) -> Result<(), Fail> {
-    for (files, want, _) in CASES {
-        let mut site = site_of(rt.alloc(), files)?;
-        let found = Journal::peek(rt.alloc(), &mut site);
-        assert!(rt; peeks_as(found, want), "{files:?}");
-        assert!(rt; has(rt.alloc(), &mut site, files), "{files:?}");
-    }
+    assert!(rt; wrong_peek(rt.alloc())? == None);
     Ok(())
+}
+
+// Whether a batch is added to the journal that was found, and found again.
+fn is_found_again(alloc: Global) -> Result<bool, Fault> {
+    let mut site = MemSite::new(alloc);
+    let batch = Octets::from_slice(alloc, b"hi")?;
+    let (journal, _) = Journal::find(alloc, &mut site)?;
+    let is_new = journal.length() == 1;
+    let journal = journal.append(&mut site, &batch)?;
+    let is_longer = journal.length() == 12 && site.bytes(ONE) == Some(HI);
+    let (again, spans) = Journal::find(alloc, &mut site)?;
+    Ok(is_new && is_longer && again == journal && spans.as_slice() == AT_HI)
 }
 
 #[test]
 fn appends_to_what_it_found(rt: HostRuntime) -> Result<(), Fail> {
-    let mut site = MemSite::new(rt.alloc());
-    let batch = Octets::from_slice(rt.alloc(), b"hi")?;
-    let (journal, _) = Journal::find(rt.alloc(), &mut site)?;
-    assert_eq!(rt; journal.length(), 1);
-    let journal = journal.append(&mut site, &batch)?;
-    assert_eq!(rt; journal.length(), 12);
-    assert_eq!(rt; site.bytes(ONE), Some(HI));
-    let (again, spans) = Journal::find(rt.alloc(), &mut site)?;
-    assert!(rt; again == journal);
-    assert!(rt; spans.as_slice() == AT_HI);
+    assert!(rt; is_found_again(rt.alloc())?);
     Ok(())
 }

@@ -1,10 +1,12 @@
+// Gated files.
 ghost use Rattle.std.specs.Prelude.{◌≡◌, None, OnOk};
 ghost use Rattle.std.specs.FinMap.{get};
 ghost use Rattle.pg_disk.specs.Account.{account, IsHonest};
 ghost use Rattle.pg_disk.specs.Image.{IsFileThere};
 
-use super::*;
+use pg_bytes::Octets;
 use pg_disk::{CallKind, Damage, Disk, Failed, Fault, FileId, Kind, MemSite, Pick, Rule};
+use pg_gate::{Span, lay, peek, read_span, scan};
 use std::alloc::{AllocError, Global};
 use std::test::Fail;
 
@@ -73,52 +75,72 @@ fn make<D: Disk>(disk: &mut D, bytes: &[u8]) -> Result<(), Failed>
     disk.sync(PAGE)
 }
 
+// The damage where the batch at this offset is cut.
+fn cut(at: u64) -> Damage {
+    Damage {
+        file: PAGE,
+        at,
+        rule: Rule::Cut,
+    }
+}
+
 // Whether these places were answered, or that the batch at this offset is cut.
 fn is_as(got: Result<Vec<Span>, Fault>, want: Result<&[Span], u64>) -> bool {
     match (got, want) {
         (Ok(spans), Ok(want)) => spans.as_slice() == want,
-        (Err(Fault::Damaged(damage)), Err(at)) => {
-            damage
-                == Damage {
-                    file: PAGE,
-                    at,
-                    rule: Rule::Cut,
-                }
-        }
+        (Err(Fault::Damaged(damage)), Err(at)) => damage == cut(at),
         _ => false,
     }
 }
 
+// Whether a file of these bytes is peeked at and scanned as it is to be.
+fn is_read(alloc: Global, case: Case<'_>) -> Result<bool, Failed> {
+    let (bytes, want, left) = case;
+    let mut site = MemSite::new(alloc);
+    make(&mut site, bytes)?;
+    let is_peeked = is_as(peek(alloc, &mut site, PAGE), want) && site.bytes(PAGE) == Some(bytes);
+    let scanned = scan(alloc, &mut site, PAGE).map(|(_, spans)| spans);
+    Ok(is_peeked && is_as(scanned, want) && site.bytes(PAGE) == Some(left))
+}
+
+// The first file that is read otherwise.
+fn wrong_file(alloc: Global) -> Result<Option<usize>, Failed> {
+    for (place, case) in CASES.iter().enumerate() {
+        if !is_read(alloc, *case)? {
+            return Ok(Some(place));
+        }
+    }
+    Ok(None)
+}
+
 #[test]
 fn reads_files(rt: HostRuntime) -> Result<(), Fail> {
-    for (bytes, want, left) in CASES {
-        let mut site = MemSite::new(rt.alloc());
-        make(&mut site, bytes)?;
-        let peeked = peek(rt.alloc(), &mut site, PAGE);
-        assert!(rt; is_as(peeked, want), "peek of {bytes:?}");
-        assert_eq!(rt; site.bytes(PAGE), Some(bytes));
-        let scanned = scan(rt.alloc(), &mut site, PAGE).map(|(_, spans)| spans);
-        assert!(rt; is_as(scanned, want), "scan of {bytes:?}");
-        assert_eq!(rt; site.bytes(PAGE), Some(left));
-    }
+    assert!(rt; wrong_file(rt.alloc())? == None);
     Ok(())
+}
+
+// Whether these bytes were answered, or that the batch at this offset is cut.
+fn is_payload(got: Result<Octets, Fault>, want: Result<&[u8], u64>) -> bool {
+    match (got, want) {
+        (Ok(octets), Ok(want)) => octets.as_slice() == want,
+        (Err(Fault::Damaged(damage)), Err(at)) => damage == cut(at),
+        _ => false,
+    }
+}
+
+// Whether one payload is read of a file, and behind it one that is cut.
+fn are_payloads_read(alloc: Global) -> Result<bool, Failed> {
+    let mut site = MemSite::new(alloc);
+    make(&mut site, TWO)?;
+    let whole = read_span(alloc, &mut site, PAGE, Span { at: 9, length: 2 });
+    let is_whole = is_payload(whole, Ok(b"hi"));
+    let cut = read_span(alloc, &mut site, PAGE, Span { at: 20, length: 2 });
+    Ok(is_whole && is_payload(cut, Err(20)))
 }
 
 #[test]
 fn reads_payloads(rt: HostRuntime) -> Result<(), Fail> {
-    let mut site = MemSite::new(rt.alloc());
-    make(&mut site, TWO)?;
-    let octets = read_span(rt.alloc(), &mut site, PAGE, Span { at: 9, length: 2 })?;
-    assert_eq!(rt; octets.as_slice(), b"hi".as_slice());
-    let cut = read_span(rt.alloc(), &mut site, PAGE, Span { at: 20, length: 2 }).map(|_| ());
-    assert_eq!(rt;
-        cut,
-        Err(Fault::Damaged(Damage {
-            file: PAGE,
-            at: 20,
-            rule: Rule::Cut
-        }))
-    );
+    assert!(rt; are_payloads_read(rt.alloc())?);
     Ok(())
 }
 
@@ -148,26 +170,53 @@ fn leaves_hi_or_none(site: &MemSite, stop: u64, pick: Pick) -> Result<bool, Allo
     })
 }
 
-#[test]
-fn what_looks_like_a_batch_is_never_read(rt: HostRuntime) -> Result<(), Fail> {
-    let mut site = MemSite::new(rt.alloc());
-    make(&mut site, LOOKALIKE)?;
-    assert_eq!(rt; scan_and_append(rt.alloc(), &mut site, b"hi")?, 0);
-    let after = b"\x01\0\0\0\0\0\0\0\x02hi\0\0\0\0\0\0\0\0\x01x\0\0";
-    assert_eq!(rt; site.bytes(PAGE), Some(after.as_slice()));
-    // Three calls make the file, three read it anew, and four add the batch.
-    assert_eq!(rt; site.calls(), 10);
-    for stop in 4..11 {
-        for pick in [
-            Pick::Old,
-            Pick::New,
-            Pick::Fill(0),
-            Pick::Fill(1),
-            Pick::Fill(255),
-        ] {
-            assert!(rt; leaves_hi_or_none(&site, stop, pick)?, "at call {stop}");
+const PICKS: [Pick; 5] = [
+    Pick::Old,
+    Pick::New,
+    Pick::Fill(0),
+    Pick::Fill(1),
+    Pick::Fill(255),
+];
+
+// The first pick of which something else is left within the call.
+fn wrong_pick(site: &MemSite, stop: u64) -> Result<Option<Pick>, AllocError> {
+    for pick in PICKS {
+        if !leaves_hi_or_none(site, stop, pick)? {
+            return Ok(Some(pick));
         }
     }
+    Ok(None)
+}
+
+// The first call, of those behind the three that make the file, within which something else is left.
+fn wrong_stop(site: &MemSite) -> Result<Option<u64>, AllocError> {
+    for stop in 4..11 {
+        if wrong_pick(site, stop)?.is_some() {
+            return Ok(Some(stop));
+        }
+    }
+    Ok(None)
+}
+
+// Whether what looks like a batch isn't read before a batch is added, nor behind it, nor after a crash within.
+fn is_never_read(alloc: Global) -> Result<bool, Fault> {
+    let mut site = MemSite::new(alloc);
+    make(&mut site, LOOKALIKE)?;
+    let count = scan_and_append(alloc, &mut site, b"hi")?;
+    let after = b"\x01\0\0\0\0\0\0\0\x02hi\0\0\0\0\0\0\0\0\x01x\0\0";
+    let wrong = wrong_stop(&site)?;
+    // Three calls make the file, three read it anew, and four add the batch.
+    Ok(
+        count == 0
+            && site.bytes(PAGE) == Some(after.as_slice())
+            && site.calls() == 10
+            && wrong == None,
+    )
+}
+
+#[test]
+fn what_looks_like_a_batch_is_never_read(rt: HostRuntime) -> Result<(), Fail> {
+    assert!(rt; is_never_read(rt.alloc())?);
     Ok(())
 }
 
@@ -207,19 +256,22 @@ fn reads_gates(site: &MemSite, made: u64, syncs: u64) -> bool {
         && site.calls().saturating_sub(made) == reads.saturating_add(others)
 }
 
-#[test]
-fn reads_no_payload(rt: HostRuntime) -> Result<(), Fail> {
-    let mut site = MemSite::new(rt.alloc());
-    let bytes = gated(rt.alloc(), BATCHES, &[1; 150])?;
+// Whether a peek, and then a scan, answers each batch and reads the gates and lengths alone.
+fn is_no_payload_read(alloc: Global) -> Result<bool, Fault> {
+    let mut site = MemSite::new(alloc);
+    let bytes = gated(alloc, BATCHES, &[1; 150])?;
     make(&mut site, &bytes)?;
     let made = site.calls();
-    let peeked = peek(rt.alloc(), &mut site, PAGE)?;
-    assert_eq!(rt; peeked.len() as u64, BATCHES);
-    assert!(rt; reads_gates(&site, made, 0));
+    let peeked = peek(alloc, &mut site, PAGE)?;
+    let is_peeked = peeked.len() as u64 == BATCHES && reads_gates(&site, made, 0);
     let made = site.calls();
-    let (_, scanned) = scan(rt.alloc(), &mut site, PAGE)?;
-    assert!(rt; scanned == peeked);
-    assert!(rt; reads_gates(&site, made, 1));
+    let (_, scanned) = scan(alloc, &mut site, PAGE)?;
+    Ok(is_peeked && scanned == peeked && reads_gates(&site, made, 1))
+}
+
+#[test]
+fn reads_no_payload(rt: HostRuntime) -> Result<(), Fail> {
+    assert!(rt; is_no_payload_read(rt.alloc())?);
     Ok(())
 }
 
@@ -247,20 +299,29 @@ fn are_calls(site: &MemSite, made: u64, calls: &[CallKind]) -> bool {
     n == site.calls()
 }
 
+// Whether a batch of this length is added to a new file by these calls.
+fn is_added(alloc: Global, length: usize, calls: &[CallKind]) -> Result<bool, Fault> {
+    let mut site = MemSite::new(alloc);
+    let batch = vec![in alloc; 7; length]?;
+    let rest = lay(&mut site, PAGE)?;
+    let made = site.calls();
+    rest.append(&mut site, &batch)?;
+    let bytes = gated(alloc, 1, &batch)?;
+    Ok(are_calls(&site, made, calls) && site.bytes(PAGE) == Some(bytes.as_slice()))
+}
+
+// The first length of a batch that is added otherwise.
+fn wrong_length(alloc: Global) -> Result<Option<usize>, Fault> {
+    for (length, calls) in APPENDS {
+        if !is_added(alloc, length, calls)? {
+            return Ok(Some(length));
+        }
+    }
+    Ok(None)
+}
+
 #[test]
 fn a_short_batch_is_written_at_once(rt: HostRuntime) -> Result<(), Fail> {
-    for (length, calls) in APPENDS {
-        let mut site = MemSite::new(rt.alloc());
-        let batch = vec![in rt.alloc(); 7; length]?;
-        let rest = lay(&mut site, PAGE)?;
-        let made = site.calls();
-        rest.append(&mut site, &batch)?;
-        assert!(rt; are_calls(&site, made, calls), "{length} bytes");
-        let bytes = gated(rt.alloc(), 1, &batch)?;
-        assert!(rt;
-            site.bytes(PAGE) == Some(bytes.as_slice()),
-            "{length} bytes"
-        );
-    }
+    assert!(rt; wrong_length(rt.alloc())? == None);
     Ok(())
 }
