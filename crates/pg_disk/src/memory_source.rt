@@ -91,25 +91,3 @@ impl Source for MemSource {
         Ok(count)
     }
 }
-
-#[cfg(test)]
-mod tests {
-    use super::*;
-    use std::test::Fail;
-
-    fn first<S: Source>(source: &mut S) -> Result<[u8; 4], Failed> {
-        let mut buf = [0; 4];
-        let _count = source.read(&mut buf)?;
-        Ok(buf)
-    }
-
-    #[test]
-    fn reads(rt: HostRuntime) -> Result<(), Fail> {
-        let mut source = MemSource::new(rt.alloc(), b"hello")?;
-        source.fail(&[2])?;
-        for want in [Ok(*b"hell"), Err(Failed), Ok(*b"o\0\0\0")] {
-            assert_eq!(rt; first(&mut source), want);
-        }
-        Ok(())
-    }
-}

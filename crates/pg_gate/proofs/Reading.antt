@@ -1,5 +1,5 @@
 -- Calls that only read.
-use Rattle.std.proofs.Common.{ℕ, ◌+◌, List, Option, refl, ◌∙◌, ap, subst, arith}
+use Rattle.std.proofs.Common.{◌≡◌, ℕ, ◌+◌, List, length, Option, Result, Ok, Err, OnErr, refl, ◌∙◌, ap, subst, arith}
 use Rattle.std.specs.FinMap.{get}
 use Rattle.pg_disk.specs.declared.file_id.FileId.{FileId}
 use Rattle.pg_disk.specs.declared.fault.Fault.{Fault}
@@ -10,7 +10,7 @@ use Rattle.pg_disk.specs.Image.{IsImage, IsFileThere, Leaves}
 use Rattle.pg_disk.specs.Moments.{Elapses, Within}
 use Rattle.pg_disk.specs.Calls.{Changes, Reads}
 use Rattle.pg_disk.proofs.Runs.{started, goes_on, then_run}
-use Rattle.pg_gate.specs.Spans.{AsRead, IsCutFault}
+use Rattle.pg_gate.specs.Spans.{AsRead, IsCut, IsCutFault, IsNotSpent, ReadsWithin}
 
 -- nothing was read yet
 pub no_reads : (tells : Option Account) → Changes tells tells (Reads 0)
@@ -60,3 +60,36 @@ cut_weaker file P Q Failed then is = tt
 cut_weaker file P Q (Damaged damage) then is = (is.0, is.1, then damage.at is.2)
 cut_weaker file P Q Spent then is = tt
 cut_weaker file P Q Memory then is = tt
+
+-- what is said of a fault of the disk and of want of memory
+pub failed_unspent : IsNotSpent Failed
+failed_unspent = λ e. cc
+
+pub memory_unspent : IsNotSpent Memory
+memory_unspent = λ e. cc
+
+-- no byte was read before it was given up
+pub none_within : {T E : Type 0} (result : Result T E) (file : FileId) (old new : Option Account) → Changes old new (Reads 0) → OnErr result (AsRead file old (λ bytes. ReadsWithin bytes (account old) (account new)))
+none_within (Ok x) file old new change = tt
+none_within (Err e) file old new change = λ h s there. omega (arith, (change.step h).taken)
+
+pub within_later : {T E : Type 0} (result : Result T E) (file : FileId) (old mid new : Option Account) → Changes old mid (Reads 0) → AsRead file mid (λ bytes. ReadsWithin bytes (account mid) (account new)) → OnErr result (AsRead file old (λ bytes. ReadsWithin bytes (account old) (account new)))
+within_later (Ok x) file old mid new change read = tt
+within_later (Err e) file old mid new change read = λ h s there.
+    let step = change.step h in
+    let few = read (change.kept h) s (ap (λ m. get m file) step.files ∙ there) in
+    omega (arith, few, step.taken)
+
+-- the length is asked for before what is given up
+module _ (file : FileId) (old mid : Option Account) (end : ℕ) (change : Changes old mid (Reads 0)) (size : AsRead file old (λ bytes. end ≡ length bytes)) where
+  pub within_after : {T E : Type 0} (result : Result T E) (new : Option Account) → AsRead file mid (λ bytes. end ≡ length bytes → ReadsWithin bytes (account mid) (account new)) → OnErr result (AsRead file old (λ bytes. ReadsWithin bytes (account old) (account new)))
+  within_after (Ok x) new read = tt
+  within_after (Err e) new read = λ h s there.
+      let step = change.step h in
+      let few = read (change.kept h) s (ap (λ m. get m file) step.files ∙ there) (size h s there) in
+      omega (arith, few, step.taken)
+
+  pub cut_after : (e : Fault) → IsCutFault file (λ at. AsRead file mid (λ bytes. end ≡ length bytes → IsCut bytes at)) e → IsCutFault file (λ at. AsRead file old (λ bytes. IsCut bytes at)) e
+  cut_after e is =
+      cut_weaker file (λ at. AsRead file mid (λ bytes. end ≡ length bytes → IsCut bytes at)) (λ at. AsRead file old (λ bytes. IsCut bytes at)) e
+      (λ at cut h s there. as_read_before file old mid 0 (λ bytes. end ≡ length bytes → IsCut bytes at) change cut h s there (size h s there)) is

@@ -1,5 +1,5 @@
 -- What a crash leaves while a file is read anew.
-use Rattle.std.proofs.Common.{◌≡◌, inl, inr, ℕ, ◌≤◌, ◌<◌, List, [], ◌∷◌, ◌++◌, length, get_or, Bool, true, false, IsTrue, ◌↔◌, Option, Some, None, Result, Ok, Err, OnOk, OnErr, refl, sym, ◌∙◌, ap, subst, arith}
+use Rattle.std.proofs.Common.{◌≡◌, inl, inr, ℕ, ◌+◌, ◌≤◌, ◌<◌, List, [], ◌∷◌, ◌++◌, length, get_or, Bool, true, false, IsTrue, ◌↔◌, Option, Some, None, Result, Ok, Err, OnOk, OnErr, refl, sym, ◌∙◌, ap, subst, arith}
 use Rattle.std.proofs.lemmas.List.{ext_get_or}
 use Rattle.std.specs.FinMap.{get}
 use Rattle.pg_disk.specs.declared.file_id.FileId.{FileId}
@@ -17,7 +17,7 @@ use Rattle.pg_gate.specs.Spans.{AsRead, IsWalked, IsScanned, IsMendable, ReadsAn
 use Rattle.pg_gate.proofs.Sealing.{batches_from, quiet_synced}
 use Rattle.pg_gate.proofs.Unique.{short_none}
 use Rattle.pg_gate.proofs.Walking.{walked_front}
-use Rattle.pg_gate.proofs.Reading.{one_read, run_reads}
+use Rattle.pg_gate.proofs.Reading.{one_read, run_reads, still_there}
 
 -- a crash leaves a quiet file as it reads
 quiet_left : (s : FileState) (left : List ℕ) → IsQuiet s → IsLeft s left → left ≡ s.bytes
@@ -246,3 +246,57 @@ module _ {D : Type 0} (moment : D → ℕ) (left_since : D → ℕ → Files →
         (from_now moment left_since old one (LeavesAt id (KeepsAsRead before) (tells old)) time.later
         (λ c b left. seen c b (rest_leaves id (tells one) (λ h. rests_synced before after (step.step (step.back h)).file) c b (law_one c b left))))
         run seen
+
+-- a file that is there, of at most so many bytes, is short
+short_there : (end : ℕ) (o : Option FileState) → IsThereAtRest o → end ≤ 1 → ((s : FileState) → o ≡ Some s → end ≡ length s.bytes) → IsShortOf end o
+short_there end None rest short size = absurd rest
+short_there end (Some s) rest short size = (rest, size s refl, short)
+
+pub short_after : (file : FileId) (old mid : Option Account) (end : ℕ) → Changes old mid (Reads 0) → (IsHonest old → IsThereAtRest (get (account old).files file)) → end ≤ 1 → AsRead file old (λ bytes. end ≡ length bytes) → IsHonest mid → IsShortOf end (get (account mid).files file)
+short_after file old mid end change rest short size h =
+    let h0 = change.back h in
+    subst (λ o. IsShortOf end o) (sym (ap (λ m. get m file) (change.step h0).files)) (short_there end (get (account old).files file) (rest h0) short (size h0))
+
+is_there : (o : Option FileState) → IsThereAtRest o → (s : FileState) × (o ≡ Some s)
+is_there None rest = absurd rest
+is_there (Some s) rest = (s, refl)
+
+pub walk_there : (file : FileId) (old mid : Option Account) (n : ℕ) → Changes old mid (Reads n) → (IsHonest old → IsThereAtRest (get (account old).files file)) → IsHonest mid → IsFileThere file (account mid).files
+walk_there file old mid n change rest = still_there file old mid n change (λ h. is_there (get (account old).files file) (rest h))
+
+-- what is only read stays
+stays_same : (s t : Option FileState) → t ≡ s → StaysOrMends s t
+stays_same None t e = tt
+stays_same (Some s) t e = λ _. (s, e, refl)
+
+pub reads_stay : (file : FileId) (old new : Option Account) (n : ℕ) → Changes old new (Reads n) → Changes old new (ReadsAndChanges file StaysOrMends)
+reads_stay file old new n change = record {
+  kept = change.kept;
+  back = change.back;
+  step = λ h.
+      let a = change.step h in
+      record {
+        told = a.told;
+        count = n;
+        taken = a.taken;
+        others = λ f ne. ap (λ m. get m f) a.files;
+        file = stays_same (get (account old).files file) (get (account new).files file) (ap (λ m. get m file) a.files);
+      };
+}
+
+-- and what is mended behind a read is mended
+pub stays_then : (file : FileId) (old mid new : Option Account) (n : ℕ) → Changes old mid (Reads n) → Changes mid new (ReadsAndChanges file StaysOrMends) → Changes old new (ReadsAndChanges file StaysOrMends)
+stays_then file old mid new n first second = record {
+  kept = λ h. second.kept (first.kept h);
+  back = λ h. first.back (second.back h);
+  step = λ h.
+      let a = first.step h in
+      let b = second.step (first.kept h) in
+      record {
+        told = b.told ∙ a.told;
+        count = n + b.count;
+        taken = omega (arith, a.taken, b.taken);
+        others = λ f ne. b.others f ne ∙ ap (λ m. get m f) a.files;
+        file = subst (λ o. StaysOrMends o (get (account new).files file)) (ap (λ m. get m file) a.files) b.file;
+      };
+}

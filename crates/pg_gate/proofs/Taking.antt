@@ -1,5 +1,5 @@
 -- How many bytes are read from gate to gate.
-use Rattle.std.proofs.Common.{◌≡◌, ℕ, ◌+◌, ◌*◌, ◌≤◌, ◌<◌, List, [], ◌∷◌, ◌++◌, length, Option, Result, Ok, Err, OnErr, ap, arith, ◌∙◌, length-append}
+use Rattle.std.proofs.Common.{◌≡◌, ℕ, ◌+◌, ◌*◌, ◌≤◌, ◌<◌, ◌-◌, List, [], ◌∷◌, ◌++◌, length, Option, Result, Ok, Err, OnErr, ap, arith, ◌∙◌, length-append}
 use Rattle.std.proofs.lemmas.List.Sums.{sum_by_push}
 use Rattle.std.specs.FinMap.{get}
 use Rattle.pg_disk.specs.declared.file_id.FileId.{FileId}
@@ -50,3 +50,19 @@ gates_after file old mid new end spans change size read h s there =
     let step = change.step h in
     let found = read (change.kept h) s (ap (λ m. get m file) step.files ∙ there) (size h s there) in
     record { gates = omega (arith, found.gates, step.taken); outside = omega (arith, found.outside, step.taken) }
+
+-- nothing is read of a file without batches
+pub none_read : (file : FileId) (old new : Option Account) (spans : List Span) → spans ≡ [] → Changes old new (Reads 0) → AsRead file old (λ bytes. ReadsGates bytes spans (account old) (account new))
+none_read file old new spans none change = λ h s there. rw none (record { gates = omega (arith, (change.step h).taken); outside = omega (arith, (change.step h).taken) })
+
+-- nor of one that was mended, but for its gate
+pub mended_taken : (file : FileId) (old mid new : Option Account) (end : ℕ) (spans : List Span) → spans ≡ [] → Changes old mid (Reads 0) → AsRead file old (λ bytes. end ≡ length bytes) → end ≤ 1
+    → AsRead file mid (λ bytes. ReadsWithin bytes (account mid) (account new)) → AsRead file old (λ bytes. ReadsGates bytes spans (account old) (account new))
+mended_taken file old mid new end spans none change size short read = λ h s there.
+    let step = change.step h in
+    let few = read (change.kept h) s (ap (λ m. get m file) step.files ∙ there) in
+    rw none (record { gates = omega (arith, few, step.taken, size h s there, short); outside = omega (arith, few, step.taken) })
+
+-- a read of so many bytes at a gate, at most nine
+pub gate_taken : (file : FileId) (old new : Option Account) (n gate : ℕ) → Changes old new (Reads n) → n ≤ 9 → AsRead file old (λ bytes. n ≤ length bytes - gate) → AsRead file old (λ bytes. ReadsGateAt bytes gate (account old) (account new))
+gate_taken file old new n gate change few within = λ h s there. record { few = omega (arith, (change.step h).taken); within = omega (arith, (change.step h).taken, within h s there) }

@@ -10,8 +10,6 @@ mod places;
 mod seal;
 mod small;
 mod spans;
-#[cfg(test)]
-mod tests;
 
 pub use gate::lay;
 pub use log::{Filling, Rest};

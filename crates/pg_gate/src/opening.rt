@@ -11,7 +11,7 @@ ghost use Rattle.pg_gate.specs.Spans.{AsRead, IsCut, IsCutFault, IsNotSpent, IsS
 ghost use Rattle.pg_gate.specs.Spans.{ReadsAndChanges, StaysOrMends, KeepsAsRead, KeepsAtRest, IsShortOf, IsThereAtRest};
 
 use crate::gate::close;
-use crate::spans::walk;
+use crate::spans::{is_open, walk};
 use crate::{Rest, Span};
 use pg_disk::{Disk, Failed, Fault, FileId};
 use std::alloc::Global;
@@ -27,7 +27,7 @@ fn begins_open<D: Disk>(disk: &mut D, file: FileId) -> Result<bool, Failed>
 {
     let mut gate = [0];
     disk.read(file, 0, &mut gate)?;
-    Ok(gate[0] == 1)
+    Ok(is_open(gate[0]))
 }
 
 // Closes the gate of a file of `end` bytes, at most one, that has none or an open one, and leaves any other as it is.

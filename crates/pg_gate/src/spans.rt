@@ -1,5 +1,5 @@
 // Where payloads stand, and the walk from gate to gate.
-ghost use Rattle.std.specs.Prelude.{◌≡◌, ◌<◌, ◌≤◌, ◌+◌, ◌-◌, ◌^◌, ℕ, length, take, drop, IfOk, IfErr, IfSome, OnErr};
+ghost use Rattle.std.specs.Prelude.{◌≡◌, ◌<◌, ◌≤◌, ◌+◌, ◌-◌, ◌^◌, ℕ, length, take, drop, IfOk, IfErr, IfSome, IsTrue, OnErr, ◌↔◌};
 ghost use Rattle.std.specs.Int.{to_be_bytes, w64};
 ghost use Rattle.pg_disk.specs.Account.{account, IsHonest};
 ghost use Rattle.pg_disk.specs.Calls.{Changes, Reads};
@@ -18,6 +18,13 @@ pub struct Span {
     /// The offset of the payload's first byte.
     pub at: u64,
     pub length: u64,
+}
+
+// Whether a gate is open.
+pub(crate) fn is_open(gate: u8) -> bool
+    ensures { IsTrue result ↔ (gate ≡ 1) }
+{
+    gate == 1
 }
 
 // The length in the eight bytes behind a gate. Where fewer are there it is the greatest number, which no file has room
@@ -50,7 +57,7 @@ fn next_span<D: Disk>(
 {
     let mut buffer = [0; 9];
     let count = disk.read(file, gate, &mut buffer)?;
-    if buffer[0] != 1 {
+    if !is_open(buffer[0]) {
         return Ok(None);
     }
     let length = payload_length(&buffer[..count]);

@@ -4,7 +4,5 @@
 mod backwards;
 mod generations;
 mod journal;
-#[cfg(test)]
-mod tests;
 
 pub use journal::Journal;

@@ -4,6 +4,7 @@ use Rattle.pg_gate.specs.Spans.{AsRead, IsCut, IsWholeAt, IsNext, IsSoFar}
 use Rattle.pg_gate.specs.declared.spans.Span.{Span}
 use Rattle.pg_gate.proofs.Reading.{reads_then, run_reads, cut_weaker}
 use Rattle.pg_disk.specs.Account.{account}
+use Rattle.pg_disk.specs.Counts.{FaultCountsAs}
 use Rattle.pg_gate.proofs.Taking.{StandsBehind, ReadsSpans, behind_more, spans_more, gates_read, gates_within}
 use Rattle.pg_gate.proofs.CutWalk.{cut_now, more_now}
 use Rattle.pg_gate.proofs.spans.walk.Goals as goal
@@ -62,3 +63,22 @@ returns-in_err-map_err-clause-taken_err g c = gates_within c.from_residual-in_er
 
 pub returns-clause-taken : goal.returns-clause-taken
 returns-clause-taken g c = gates_read c.args.file (g.D.Disk.tells c.args.disk.now) (g.D.Disk.tells c.gates.disk) (g.D.Disk.tells c.next_span.new.disk) c.gates.invariant.count c.gates.gate c.args.end c.gates.spans.items c.gates.invariant.same c.gates.invariant.place c.gates.invariant.within c.gates.invariant.taken c.next_span.ensures.taken
+
+pub returns-in_err-span-clause-any_moment : goal.returns-in_err-span-clause-any_moment
+returns-in_err-span-clause-any_moment g c = run_reads g.D.Disk.moment g.D.Disk.left_since g.D.Disk.tells c.args.disk.now c.gates.disk c.next_span.new.disk c.gates.invariant.count c.gates.invariant.same c.gates.invariant.run c.next_span.ensures.any_moment
+
+pub returns-in_err-span-clause-only : goal.returns-in_err-span-clause-only
+returns-in_err-span-clause-only g c =
+    let is = err_from_is_err_and c.from_residual.result c.from_residual.ensures.1 in
+    rw (is.1, is.2) c.in_err-span.ensures.only
+
+pub returns-in_err-span-clause-cause : goal.returns-in_err-span-clause-cause
+returns-in_err-span-clause-cause g c =
+    let is = err_from_is_err_and c.from_residual.result c.from_residual.ensures.1 in
+    rw (is.1, is.2) (subst (λ f. FaultCountsAs c.in_err-span.field-0.0 f (g.D.Disk.faults c.next_span.new.disk)) c.gates.invariant.faults c.in_err-span.ensures.cause)
+
+pub returns-in_err-map_err-clause-any_moment : goal.returns-in_err-map_err-clause-any_moment
+returns-in_err-map_err-clause-any_moment g c = run_reads g.D.Disk.moment g.D.Disk.left_since g.D.Disk.tells c.args.disk.now c.gates.disk c.next_span.new.disk c.gates.invariant.count c.gates.invariant.same c.gates.invariant.run c.next_span.ensures.any_moment
+
+pub returns-clause-any_moment : goal.returns-clause-any_moment
+returns-clause-any_moment g c = run_reads g.D.Disk.moment g.D.Disk.left_since g.D.Disk.tells c.args.disk.now c.gates.disk c.next_span.new.disk c.gates.invariant.count c.gates.invariant.same c.gates.invariant.run c.next_span.ensures.any_moment

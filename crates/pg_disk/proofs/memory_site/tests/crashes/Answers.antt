@@ -1,9 +1,0 @@
-use Rattle.std.proofs.Common.{ap, ◌∙◌}
-use Rattle.std.specs.FinMap.{get, get-empty}
-use Rattle.pg_disk.specs.declared.memory_site.tests.TheConstants.{PAGE}
-use Rattle.pg_disk.specs.Account.{Account}
-use Rattle.pg_disk.specs.Files.{file_cmp}
-use Rattle.pg_disk.proofs.memory_site.tests.crashes.Goals as goal
-
-pub rewrite-requires : goal.rewrite-requires
-rewrite-requires g c = λ honest. ap (λ (a : Account). get a.files PAGE) c.new-site.ensures.empty ∙ get-empty file_cmp PAGE

@@ -1,9 +1,0 @@
-use Rattle.std.proofs.Common.{ap, ◌∙◌}
-use Rattle.std.specs.FinMap.{get, get-empty}
-use Rattle.pg_disk.specs.Account.{Account}
-use Rattle.pg_disk.specs.Files.{file_cmp}
-use Rattle.pg_gate.specs.declared.tests.TheConstants.{PAGE}
-use Rattle.pg_gate.proofs.tests.reads_payloads.Goals as goal
-
-pub make-requires : goal.make-requires
-make-requires g c = λ honest. ap (λ (a : Account). get a.files PAGE) c.new-site.ensures.empty ∙ get-empty file_cmp PAGE
