@@ -4,8 +4,6 @@
 mod octets;
 mod put;
 mod take;
-#[cfg(test)]
-mod tests;
 mod text;
 
 pub use octets::Octets;

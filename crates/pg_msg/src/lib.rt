@@ -11,8 +11,6 @@ mod pages;
 mod properties;
 mod queue_ids;
 mod reply;
-#[cfg(test)]
-mod tests;
 mod weighing;
 
 pub use command::Command;

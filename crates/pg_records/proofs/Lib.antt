@@ -3,4 +3,3 @@ pub mod BatchLaws
 pub mod EntryLaws
 pub mod FieldLaws
 pub mod Spelling
-pub mod Texts

@@ -1,7 +1,6 @@
 // The entries that bytes spell.
 ghost use Rattle.std.specs.Prelude.{◌≡◌, ℕ, List, length, IfOk, MatchOption, IsSomeAnd};
-ghost use Rattle.std.specs.Int.{w64};
-ghost use Rattle.pg_msg.specs.Reading.{Gives, positive_at};
+ghost use Rattle.pg_msg.specs.Reading.{Gives};
 ghost use Rattle.pg_records.specs.declared.entry.Entry.{Entry};
 ghost use Rattle.pg_records.specs.Entries.{SpellsBatch};
 ghost use Rattle.pg_records.specs.Reading.{filter_at, duplicate_id_at, epoch_at, address_at, queue_at, drop_queue_at, add_at, ack_at, place_at, page_done_at, page_tx_at, dup_at, large_add_at, large_ack_at, first_page_at, next_queue_at, ack_run_at, fields_at, entry_at, entries_at, batch_at};
@@ -9,8 +8,8 @@ ghost use Rattle.pg_records.specs.Reading.{filter_at, duplicate_id_at, epoch_at,
 use crate::entry::Entry;
 use pg_bytes::{Octets, Text};
 use pg_msg::fields::{
-    Unread, read_bytes, read_message, read_message_id, read_name, read_pages, read_queue_ids,
-    read_u8, read_u16, read_u32, read_u64,
+    Unread, read_bytes, read_message, read_message_id, read_name, read_pages, read_positive_u64,
+    read_queue_ids, read_u8, read_u16, read_u32, read_u64, text_of,
 };
 use std::alloc::{AllocError, Global};
 
@@ -146,16 +145,14 @@ fn read_queue(alloc: Global, bytes: &[u8]) -> Result<(Entry, &[u8]), Unread>
 }
 
 // A filter behind its length in 2 bytes. Whether it can be read as a filter isn't asked here.
-#[tactic(auto, using(crate::proofs::Texts::is_text, crate::proofs::Texts::is_no_text), unfolding(crate::specs::Reading::filter_at))]
+#[tactic(auto, unfolding(crate::specs::Reading::filter_at))]
 fn read_filter(alloc: Global, bytes: &[u8]) -> Result<(Text, &[u8]), Unread>
     ensures { Gives (λ read. (read.0, read.1.now)) result (filter_at bytes.now) }
 {
     let (count, rest) = read_u16(bytes)?;
     let (filter, rest) = read_bytes(rest, usize::from(count))?;
-    match std::str::from_utf8(filter) {
-        Ok(filter) => Ok((Text::from_str(alloc, filter)?, rest)),
-        Err(_) => Err(Unread::Malformed),
-    }
+    let filter = text_of(alloc, filter)?;
+    Ok((filter, rest))
 }
 
 #[tactic(auto, unfolding(crate::specs::Reading::drop_queue_at))]
@@ -195,21 +192,9 @@ fn read_ack_at(bytes: &[u8]) -> Result<(Entry, &[u8]), Unread>
     ensures { Gives (λ read. (read.0, read.1.now)) result (place_at bytes.now) }
 {
     let (queue, rest) = read_u32(bytes)?;
-    let (page, rest) = read_page(rest)?;
+    let (page, rest) = read_positive_u64(rest)?;
     let (index, rest) = read_u32(rest)?;
     Ok((Entry::AckAt { queue, page, index }, rest))
-}
-
-// The number of a page.
-#[tactic(auto, unfolding(pg_msg::specs::Reading::positive_at))]
-fn read_page(bytes: &[u8]) -> Result<(u64, &[u8]), Unread>
-    ensures { Gives (λ read. (read.0, read.1.now)) result (positive_at w64 bytes.now) }
-{
-    let (page, rest) = read_u64(bytes)?;
-    if page == 0 {
-        return Err(Unread::Malformed);
-    }
-    Ok((page, rest))
 }
 
 #[tactic(auto, unfolding(crate::specs::Reading::page_done_at))]
@@ -217,7 +202,7 @@ fn read_page_done(bytes: &[u8]) -> Result<(Entry, &[u8]), Unread>
     ensures { Gives (λ read. (read.0, read.1.now)) result (page_done_at bytes.now) }
 {
     let (queue, rest) = read_u32(bytes)?;
-    let (page, rest) = read_page(rest)?;
+    let (page, rest) = read_positive_u64(rest)?;
     Ok((Entry::PageDone { queue, page }, rest))
 }
 
@@ -281,7 +266,7 @@ fn read_first_page(bytes: &[u8]) -> Result<(Entry, &[u8]), Unread>
     ensures { Gives (λ read. (read.0, read.1.now)) result (first_page_at bytes.now) }
 {
     let (address, rest) = read_u32(bytes)?;
-    let (page, rest) = read_page(rest)?;
+    let (page, rest) = read_positive_u64(rest)?;
     Ok((Entry::FirstPage { address, page }, rest))
 }
 
@@ -298,7 +283,7 @@ fn read_ack_run(bytes: &[u8]) -> Result<(Entry, &[u8]), Unread>
     ensures { Gives (λ read. (read.0, read.1.now)) result (ack_run_at bytes.now) }
 {
     let (queue, rest) = read_u32(bytes)?;
-    let (page, rest) = read_page(rest)?;
+    let (page, rest) = read_positive_u64(rest)?;
     let (from, rest) = read_u32(rest)?;
     let (to, rest) = read_u32(rest)?;
     if from > to {

@@ -6,7 +6,7 @@ use pg_msg::{Message, MessageId, Pages, QueueIds};
 /// A change of what outlives a run, as the journal has it. `docs/FORMATS.md` gives the code and the bytes of each.
 ///
 /// An address and a queue are named by their ids, which are never used again. Pages are numbered from 1.
-#[derive(Debug, PartialEq, Eq, Drop)]
+#[derive(PartialEq, Eq, Drop)]
 pub enum Entry {
     /// The broker was opened.
     Epoch {

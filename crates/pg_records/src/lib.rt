@@ -4,8 +4,6 @@
 mod decoding;
 mod encoding;
 mod entry;
-#[cfg(test)]
-mod tests;
 
 pub use decoding::{decode_batch, one_reading};
 pub use encoding::encode_batch;

@@ -4,9 +4,6 @@ ghost use Rattle.pg_msg.specs.Commands.{AreSettings};
 ghost use Rattle.pg_text.specs.Spelling.{ReadsAs};
 ghost use Rattle.pg_text.specs.Words.{ReadsBehind, settings_text};
 
-#[cfg(test)]
-mod tests;
-
 use crate::words;
 use pg_bytes::{Octets, Text};
 use pg_msg::{Command, Properties};

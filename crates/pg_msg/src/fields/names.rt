@@ -50,8 +50,8 @@ pub fn put_name(out: &mut Octets, name: &Text) -> Result<(), AllocError>
     put_bytes(out, bytes)
 }
 
-// A copy of the bytes as a text.
-pub(super) fn text_of(alloc: Global, bytes: &[u8]) -> Result<Text, Unread>
+/// A copy of the bytes as a text. Malformed where they aren't UTF-8.
+pub fn text_of(alloc: Global, bytes: &[u8]) -> Result<Text, Unread>
     ensures { Gives (λ text. text) result (guarded (is_utf8 bytes.now) bytes.now) }
 {
     match str::from_utf8(bytes) {

@@ -62,9 +62,9 @@ pub(super) fn read_positive_u32(bytes: &[u8]) -> Result<(u32, &[u8]), Unread>
     Ok((number, rest))
 }
 
-// A number of 8 bytes that is at least 1.
+/// The big-endian number in the first 8 bytes, which is at least 1.
 #[tactic(auto, unfolding(crate::specs::Reading::positive_at))]
-pub(super) fn read_positive_u64(bytes: &[u8]) -> Result<(u64, &[u8]), Unread>
+pub fn read_positive_u64(bytes: &[u8]) -> Result<(u64, &[u8]), Unread>
     ensures { Gives (λ read. (read.0, read.1.now)) result (positive_at w64 bytes.now) }
 {
     let (number, rest) = read_u64(bytes)?;

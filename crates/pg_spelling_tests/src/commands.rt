@@ -1,10 +1,15 @@
-use super::*;
+use pg_msg::Command;
+use pg_text::parse_line;
+use std::alloc::{AllocError, Global};
 use std::test::Fail;
+
+// A line has at most so many bytes.
+const LONGEST_LINE: usize = 1_048_576;
 
 // A line, and the name and the settings that it gives.
 type Case = (&'static [u8], Option<(&'static str, u64, u64, u64, u32)>);
 
-const CASES: [Case; 21] = [
+const ADDRESSES: [Case; 21] = [
     (
         b"address A max 50 page 100 ahead 0 dup 0",
         Some(("A", 50, 100, 0, 0)),
@@ -49,13 +54,9 @@ const CASES: [Case; 21] = [
     (b"", None),
 ];
 
-// Whether the line is read as the address with these settings, or is unreadable where none are wanted.
-fn makes_address(
-    alloc: Global,
-    line: &[u8],
-    wanted: Option<(&str, u64, u64, u64, u32)>,
-) -> Result<bool, AllocError> {
-    match parse_line(alloc, line)? {
+// Whether this is the address with these settings, or none where none are wanted.
+fn is_address(command: &Option<Command>, wanted: Option<(&str, u64, u64, u64, u32)>) -> bool {
+    match command {
         Some(
             Command::Address {
                 name,
@@ -64,19 +65,31 @@ fn makes_address(
                 ahead,
                 dup,
             },
-        ) => Ok(wanted == Some((name.as_str(), max, page, ahead, dup))),
-        Some(_) => Ok(false),
-        None => Ok(wanted.is_none()),
+        ) => wanted == Some((name.as_str(), *max, *page, *ahead, *dup)),
+        Some(_) => false,
+        None => wanted.is_none(),
     }
+}
+
+// The first line of the table that is read otherwise.
+fn wrong_address(alloc: Global) -> Result<Option<&'static [u8]>, AllocError> {
+    for (line, wanted) in ADDRESSES {
+        if !is_address(&parse_line(alloc, line)?, wanted) {
+            return Ok(Some(line));
+        }
+    }
+    Ok(None)
+}
+
+// One byte more than the longest line.
+fn refuses_a_long_line(alloc: Global) -> Result<bool, AllocError> {
+    let long = vec![in alloc; b'a'; LONGEST_LINE + 1]?;
+    Ok(is_address(&parse_line(alloc, &long)?, None))
 }
 
 #[test]
 fn reads_addresses(rt: HostRuntime) -> Result<(), Fail> {
-    for (line, wanted) in CASES {
-        assert!(rt; makes_address(rt.alloc(), line, wanted)?, "{line:?}");
-    }
-    let long = vec![in rt.alloc(); b'a'; LONGEST_LINE + 1]?;
-    assert!(rt; makes_address(rt.alloc(), &long, None)?);
+    assert!(rt; wrong_address(rt.alloc())?.is_none() && refuses_a_long_line(rt.alloc())?);
     Ok(())
 }
 
@@ -113,30 +126,34 @@ const QUEUES: [QueueCase; 12] = [
     (b"queue  on A", None),
 ];
 
-// Whether the line is read as the queue of this name on this address, or is unreadable where none is wanted.
-fn makes_queue(
-    alloc: Global,
-    line: &[u8],
-    wanted: Option<(&str, &str)>,
-) -> Result<bool, AllocError> {
-    match parse_line(alloc, line)? {
+// Whether this is the queue of this name on this address, or none where none is wanted.
+fn is_queue(command: &Option<Command>, wanted: Option<(&str, &str)>) -> bool {
+    match command {
         Some(
             Command::Queue {
                 name,
                 address,
                 filter: None,
             },
-        ) => Ok(wanted == Some((name.as_str(), address.as_str()))),
-        Some(_) => Ok(false),
-        None => Ok(wanted.is_none()),
+        ) => wanted == Some((name.as_str(), address.as_str())),
+        Some(_) => false,
+        None => wanted.is_none(),
     }
+}
+
+// The first line of the table that is read otherwise.
+fn wrong_queue(alloc: Global) -> Result<Option<&'static [u8]>, AllocError> {
+    for (line, wanted) in QUEUES {
+        if !is_queue(&parse_line(alloc, line)?, wanted) {
+            return Ok(Some(line));
+        }
+    }
+    Ok(None)
 }
 
 #[test]
 fn reads_queues(rt: HostRuntime) -> Result<(), Fail> {
-    for (line, wanted) in QUEUES {
-        assert!(rt; makes_queue(rt.alloc(), line, wanted)?, "{line:?}");
-    }
+    assert!(rt; wrong_queue(rt.alloc())?.is_none());
     Ok(())
 }
 
@@ -158,9 +175,9 @@ const SENDS: [SendCase; 9] = [
     (b"send A Body a", None),
 ];
 
-// Whether the line is read as a message with this body alone to this address, or is unreadable where none is wanted.
-fn sends(alloc: Global, line: &[u8], wanted: Option<(&str, &[u8])>) -> Result<bool, AllocError> {
-    match parse_line(alloc, line)? {
+// Whether this is a message with this body alone to this address, or none where none is wanted.
+fn is_message(command: &Option<Command>, wanted: Option<(&str, &[u8])>) -> bool {
+    match command {
         Some(
             Command::Send {
                 address,
@@ -169,26 +186,46 @@ fn sends(alloc: Global, line: &[u8], wanted: Option<(&str, &[u8])>) -> Result<bo
                 properties,
                 body,
             },
-        ) => Ok(
-            properties.as_slice().is_empty() && wanted == Some((address.as_str(), body.as_slice())),
-        ),
-        Some(_) => Ok(false),
-        None => Ok(wanted.is_none()),
+        ) => {
+            properties.as_slice().is_empty() && wanted == Some((address.as_str(), body.as_slice()))
+        }
+        Some(_) => false,
+        None => wanted.is_none(),
     }
+}
+
+// The first line of the table that is read otherwise.
+fn wrong_message(alloc: Global) -> Result<Option<&'static [u8]>, AllocError> {
+    for (line, wanted) in SENDS {
+        if !is_message(&parse_line(alloc, line)?, wanted) {
+            return Ok(Some(line));
+        }
+    }
+    Ok(None)
+}
+
+// A message with a body of so many bytes.
+fn with_body(alloc: Global, length: usize) -> Result<Vec<u8>, AllocError> {
+    let mut line = Vec::from_slice(alloc, b"send A body ")?;
+    line.append(&mut vec![in alloc; 0xff; length]?)?;
+    Ok(line)
+}
+
+// Whether a message with a body of so many bytes is read, or is unreadable where it isn't to be.
+fn reads_body(alloc: Global, length: usize, readable: bool) -> Result<bool, AllocError> {
+    let line = with_body(alloc, length)?;
+    let wanted = readable.then_some(("A", line.get(12..).unwrap_or(&[])));
+    Ok(is_message(&parse_line(alloc, &line)?, wanted))
 }
 
 #[test]
 fn reads_messages(rt: HostRuntime) -> Result<(), Fail> {
-    for (line, wanted) in SENDS {
-        assert!(rt; sends(rt.alloc(), line, wanted)?, "{line:?}");
-    }
-    for (length, readable) in [(1000, true), (1001, false)] {
-        let body = vec![in rt.alloc(); 0xff; length]?;
-        let mut line = Vec::from_slice(rt.alloc(), b"send A body ")?;
-        line.extend_from_slice(&body)?;
-        let wanted = readable.then_some(("A", body.as_slice()));
-        assert!(rt; sends(rt.alloc(), &line, wanted)?, "{length}");
-    }
+    let alloc = rt.alloc();
+    assert!(rt;
+        wrong_message(alloc)?.is_none()
+            && reads_body(alloc, 1000, true)?
+            && reads_body(alloc, 1001, false)?
+    );
     Ok(())
 }
 
@@ -207,19 +244,27 @@ const COUNTS: [(&[u8], Option<&str>); 6] = [
     (b"count", None),
 ];
 
-// Whether the line is read as a count of the queue of this name, or is unreadable where none is wanted.
-fn counts(alloc: Global, line: &[u8], wanted: Option<&str>) -> Result<bool, AllocError> {
-    match parse_line(alloc, line)? {
-        Some(Command::Count { queue }) => Ok(wanted == Some(queue.as_str())),
-        Some(_) => Ok(false),
-        None => Ok(wanted.is_none()),
+// Whether this is a count of the queue of this name, or none where none is wanted.
+fn is_count(command: &Option<Command>, wanted: Option<&str>) -> bool {
+    match command {
+        Some(Command::Count { queue }) => wanted == Some(queue.as_str()),
+        Some(_) => false,
+        None => wanted.is_none(),
     }
+}
+
+// The first line of the table that is read otherwise.
+fn wrong_count(alloc: Global) -> Result<Option<&'static [u8]>, AllocError> {
+    for (line, wanted) in COUNTS {
+        if !is_count(&parse_line(alloc, line)?, wanted) {
+            return Ok(Some(line));
+        }
+    }
+    Ok(None)
 }
 
 #[test]
 fn reads_counts(rt: HostRuntime) -> Result<(), Fail> {
-    for (line, wanted) in COUNTS {
-        assert!(rt; counts(rt.alloc(), line, wanted)?, "{line:?}");
-    }
+    assert!(rt; wrong_count(rt.alloc())?.is_none());
     Ok(())
 }

@@ -1,8 +1,6 @@
-ghost use Rattle.std.specs.Prelude.{◌<◌, length};
-
-use super::*;
 use pg_bytes::{Octets, Text, put_bytes, put_u8, put_u16, put_u32};
 use pg_msg::{Body, Message, MessageId, Pages, Properties, QueueIds};
+use pg_records::{Entry, decode_batch, encode_batch};
 use std::alloc::{AllocError, Global};
 use std::test::Fail;
 
@@ -163,55 +161,88 @@ fn respelled(alloc: Global, bytes: &[u8]) -> Result<Option<Octets>, AllocError> 
 
 // Whether the bytes are read as the entries that spell them, or as none.
 fn is_sound(alloc: Global, bytes: &[u8]) -> Result<bool, AllocError> {
-    Ok(respelled(alloc, bytes)?.is_none_or(|spelled| spelled.as_slice() == bytes))
+    match respelled(alloc, bytes)? {
+        Some(spelled) => Ok(spelled.as_slice() == bytes),
+        None => Ok(true),
+    }
 }
 
 fn is_refused(alloc: Global, bytes: &[u8]) -> Result<bool, AllocError> {
     Ok(decode_batch(alloc, bytes)?.is_none())
 }
 
+// Whether the bytes are read as the entries that spell them.
+fn is_spelled(alloc: Global, bytes: &[u8]) -> Result<bool, AllocError> {
+    match respelled(alloc, bytes)? {
+        Some(spelled) => Ok(spelled.as_slice() == bytes),
+        None => Ok(false),
+    }
+}
+
+fn is_only(entry: &Entry, entries: &[Entry]) -> bool {
+    match entries {
+        [only] => *only == *entry,
+        _ => false,
+    }
+}
+
+// Whether the bytes are read as the one entry of their code.
+fn is_read(alloc: Global, bytes: &[u8]) -> Result<bool, AllocError> {
+    let code = bytes.first().copied().unwrap_or(0);
+    let Some(entry) = entry_of(alloc, code)? else {
+        return Ok(false);
+    };
+    match decode_batch(alloc, bytes)? {
+        Some(entries) => Ok(is_only(&entry, &entries)),
+        None => Ok(false),
+    }
+}
+
+// The first entry that isn't read as the one of its code.
+fn unread_entry(alloc: Global) -> Result<Option<&'static [u8]>, AllocError> {
+    for bytes in SPELLED {
+        if !is_read(alloc, bytes)? || !is_spelled(alloc, bytes)? {
+            return Ok(Some(bytes));
+        }
+    }
+    Ok(None)
+}
+
 #[test]
 fn spells_and_reads_each_entry(rt: HostRuntime) -> Result<(), Fail> {
-    for bytes in SPELLED {
-        let entries = decode_batch(rt.alloc(), bytes)?.ok_or("the bytes are an entry")?;
-        assert_eq!(rt; entries.len(), 1, "{bytes:?}");
-        assert!(rt;
-            entries.into_iter().next() == entry_of(rt.alloc(), bytes[0])?,
-            "{bytes:?}"
-        );
-        let spelled = respelled(rt.alloc(), bytes)?.ok_or("the bytes are an entry")?;
-        assert_eq!(rt; spelled.as_slice(), bytes);
-    }
+    assert!(rt; unread_entry(rt.alloc())?.is_none());
     Ok(())
 }
 
-// The bytes without the one at this place.
-fn without(alloc: Global, bytes: &[u8], at: usize) -> Result<Vec<u8>, AllocError>
-    requires { at < length bytes.now }
-{
-    let mut left = Vec::from_slice(alloc, &bytes[..at])?;
-    left.extend_from_slice(&bytes[at + 1..])?;
+// The front, the byte and what is behind, one behind the other.
+fn joined(alloc: Global, front: &[u8], byte: u8, behind: &[u8]) -> Result<Vec<u8>, AllocError> {
+    let mut bytes = Vec::from_slice(alloc, front)?;
+    bytes.push(byte)?;
+    bytes.extend_from_slice(behind)?;
+    Ok(bytes)
+}
+
+// The bytes without the first of those behind the front.
+fn without(alloc: Global, front: &[u8], behind: &[u8]) -> Result<Vec<u8>, AllocError> {
+    let mut left = Vec::from_slice(alloc, front)?;
+    left.extend_from_slice(behind.get(1..).unwrap_or(behind))?;
     Ok(left)
 }
 
-// The bytes with a 0 before the one at this place.
-fn with_zero(alloc: Global, bytes: &[u8], at: usize) -> Result<Vec<u8>, AllocError>
-    requires { at < length bytes.now }
-{
-    let mut longer = Vec::from_slice(alloc, &bytes[..at])?;
-    longer.push(0)?;
-    longer.extend_from_slice(&bytes[at..])?;
-    Ok(longer)
+// Whether the bytes with a 0 behind the front are refused. An Add entry may be another one with such a 0, since its fields
+// then begin elsewhere.
+fn is_refused_with_zero(alloc: Global, front: &[u8], behind: &[u8]) -> Result<bool, AllocError> {
+    let longer = joined(alloc, front, 0, behind)?;
+    Ok(is_refused(alloc, &longer)? || front.first() == Some(&5) && is_sound(alloc, &longer)?)
 }
 
-// The first place up to which the bytes are still an entry, or without which they are one, or with a 0 before which. An Add
-// entry may be another one with such a 0, since its fields then begin elsewhere.
+// The first place up to which the bytes are still an entry, or without which they are one, or with a 0 before which.
 fn first_read(alloc: Global, bytes: &[u8]) -> Result<Option<usize>, AllocError> {
     for at in 0..bytes.len() {
-        let longer = with_zero(alloc, bytes, at)?;
-        let refused = is_refused(alloc, &bytes[..at])?
-            && is_refused(alloc, &without(alloc, bytes, at)?)?
-            && (is_refused(alloc, &longer)? || bytes[0] == 5 && is_sound(alloc, &longer)?);
+        let (front, behind) = bytes.split_at(at);
+        let refused = is_refused(alloc, front)?
+            && is_refused(alloc, &without(alloc, front, behind)?)?
+            && is_refused_with_zero(alloc, front, behind)?;
         if !refused {
             return Ok(Some(at));
         }
@@ -219,14 +250,20 @@ fn first_read(alloc: Global, bytes: &[u8]) -> Result<Option<usize>, AllocError> 
     Ok(None)
 }
 
+// The first entry that is still read with a byte more or less.
+fn read_entry(alloc: Global) -> Result<Option<&'static [u8]>, AllocError> {
+    for bytes in SPELLED {
+        let longer = joined(alloc, bytes, 0, &[])?;
+        if first_read(alloc, bytes)?.is_some() || !is_refused(alloc, &longer)? {
+            return Ok(Some(bytes));
+        }
+    }
+    Ok(None)
+}
+
 #[test]
 fn refuses_what_is_short_or_long(rt: HostRuntime) -> Result<(), Fail> {
-    for bytes in SPELLED {
-        assert_eq!(rt; first_read(rt.alloc(), bytes)?, None, "{bytes:?}");
-        let mut longer = Vec::from_slice(rt.alloc(), bytes)?;
-        longer.push(0)?;
-        assert!(rt; is_refused(rt.alloc(), &longer)?, "{bytes:?}");
-    }
+    assert!(rt; read_entry(rt.alloc())?.is_none());
     Ok(())
 }
 
@@ -309,27 +346,49 @@ fn given(alloc: Global, count: u16) -> Result<Octets, AllocError> {
     Ok(out)
 }
 
+// How many bytes a name or a duplicate id has, and whether that is refused.
+const LENGTHS: [(u8, bool); 4] = [(1, false), (64, false), (65, true), (255, true)];
+
+// How many queues are named, and whether that is refused.
+const COUNTS: [(u16, bool); 4] = [(1, false), (1_000, false), (1_001, true), (65_535, true)];
+
+fn read_row(alloc: Global) -> Result<Option<&'static [u8]>, AllocError> {
+    for bytes in REFUSED {
+        if !is_refused(alloc, bytes)? {
+            return Ok(Some(bytes));
+        }
+    }
+    Ok(None)
+}
+
+fn wrong_length(alloc: Global) -> Result<Option<u8>, AllocError> {
+    for (count, refused) in LENGTHS {
+        if is_refused(alloc, named(alloc, count)?.as_slice())? != refused
+            || is_refused(alloc, seen(alloc, count)?.as_slice())? != refused
+        {
+            return Ok(Some(count));
+        }
+    }
+    Ok(None)
+}
+
+fn wrong_count(alloc: Global) -> Result<Option<u16>, AllocError> {
+    for (count, refused) in COUNTS {
+        if is_refused(alloc, given(alloc, count)?.as_slice())? != refused {
+            return Ok(Some(count));
+        }
+    }
+    Ok(None)
+}
+
 #[test]
 fn refuses_what_is_out_of_range(rt: HostRuntime) -> Result<(), Fail> {
-    for bytes in REFUSED {
-        assert!(rt; is_refused(rt.alloc(), bytes)?, "{bytes:?}");
-    }
-    for (count, refused) in [(1, false), (64, false), (65, true), (255, true)] {
-        assert_eq!(rt;
-            is_refused(rt.alloc(), named(rt.alloc(), count)?.as_slice())?,
-            refused
-        );
-        assert_eq!(rt;
-            is_refused(rt.alloc(), seen(rt.alloc(), count)?.as_slice())?,
-            refused
-        );
-    }
-    for (count, refused) in [(1, false), (1_000, false), (1_001, true), (65_535, true)] {
-        assert_eq!(rt;
-            is_refused(rt.alloc(), given(rt.alloc(), count)?.as_slice())?,
-            refused
-        );
-    }
+    let alloc = rt.alloc();
+    assert!(rt;
+        read_row(alloc)?.is_none()
+            && wrong_length(alloc)?.is_none()
+            && wrong_count(alloc)?.is_none()
+    );
     Ok(())
 }
 
@@ -337,26 +396,30 @@ fn refuses_what_is_out_of_range(rt: HostRuntime) -> Result<(), Fail> {
 const BATCH: &[u8] =
     b"\x01\0\0\0\x07\x03\0\0\0\x01\0\0\0\x01\x01Q\0\x05n < 5\x05\0\0\0\x01\0\x02\0\0\0\x01\0\0\0\x02\0\0\0\x01\0\0\0\x01\x01\0\0\0\0\0\x01x\x08\0\0\0\x01\0\0\0\0\0\0\0\x03\x0f\0\0\0\x01\0\0\0\0\0\0\0\x03\0\0\0\x04\0\0\0\x04";
 
-// Whether the bytes are sound with each value at this place.
-fn are_sound(alloc: Global, bytes: &[u8], at: usize) -> Result<bool, AllocError>
-    requires { at < length bytes.now }
-{
-    let mut changed = Vec::from_slice(alloc, bytes)?;
+// The first value which the bytes with it between front and behind aren't sound with.
+fn unsound_value(alloc: Global, front: &[u8], behind: &[u8]) -> Result<Option<u8>, AllocError> {
     for value in 0..=255 {
-        changed[at] = value;
-        if !is_sound(alloc, &changed)? {
-            return Ok(false);
+        if !is_sound(alloc, &joined(alloc, front, value, behind)?)? {
+            return Ok(Some(value));
         }
     }
-    Ok(true)
+    Ok(None)
+}
+
+// The first place at which a value is that the batch isn't sound with.
+fn unsound_place(alloc: Global) -> Result<Option<usize>, AllocError> {
+    for at in 0..BATCH.len() {
+        let (front, behind) = BATCH.split_at(at);
+        let behind = behind.get(1..).unwrap_or(behind);
+        if unsound_value(alloc, front, behind)?.is_some() {
+            return Ok(Some(at));
+        }
+    }
+    Ok(None)
 }
 
 #[test]
 fn reads_nothing_but_what_is_spelled(rt: HostRuntime) -> Result<(), Fail> {
-    let spelled = respelled(rt.alloc(), BATCH)?.ok_or("the bytes are a batch")?;
-    assert_eq!(rt; spelled.as_slice(), BATCH);
-    for at in 0..BATCH.len() {
-        assert!(rt; are_sound(rt.alloc(), BATCH, at)?, "{at}");
-    }
+    assert!(rt; is_spelled(rt.alloc(), BATCH)? && unsound_place(rt.alloc())?.is_none());
     Ok(())
 }
