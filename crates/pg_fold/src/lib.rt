@@ -8,8 +8,6 @@ mod journaled;
 mod laws;
 mod queues;
 mod rows;
-#[cfg(test)]
-mod tests;
 
 pub use addresses::AddressRows;
 pub use durable::Durable;

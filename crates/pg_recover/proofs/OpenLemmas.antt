@@ -16,7 +16,7 @@ use Rattle.pg_gate.proofs.Unique.{stands_length}
 use Rattle.pg_fold.specs.declared.durable.Durable.{Durable}
 use Rattle.pg_fold.specs.Sound.{IsSound}
 use Rattle.pg_journal.specs.declared.journal.Journal.{Journal}
-use Rattle.pg_journal.specs.Generations.{Contents, as_read, as_left, bytes_of, first_generation, JournalOf}
+use Rattle.pg_journal.specs.Generations.{Contents, as_read, as_left, bytes_of, JournalOf}
 use Rattle.pg_journal.specs.Looks.{ReadsGenerations}
 use Rattle.pg_journal.specs.Stands.{StaysOrSettles, counted, name_of}
 use Rattle.pg_journal.proofs.Law.{journal_unique}

@@ -10,8 +10,6 @@ mod reading;
 mod removing;
 mod room;
 mod syncing;
-#[cfg(test)]
-mod tests;
 
 pub use opening::{Parts, recover};
 pub use room::weights_by_address;

@@ -12,11 +12,6 @@ use Rattle.pg_recover.proofs.OpenLemmas.{opens_then}
 use Rattle.pg_recover.proofs.RecoverLemmas.{all_denoted, all_ill, all_kept, all_moments, all_next, all_recovered, all_seen, all_spent, can_sync, listed_now, listing_moments, moments_once_synced, on_ok, quiet_now, sync_moments, sync_opens}
 use Rattle.pg_recover.proofs.opening.recover.Goals as goal
 
-pub sync_all-requires : goal.sync_all-requires
-sync_all-requires g c = λ honest.
-    subst (λ (ids : _). All (λ (file : FileId). IsFileThere file (account (g.D.Disk.tells c.list.new.self)).files) ids) (sym c.deref.ensures.value)
-    (can_sync (g.D.Disk.tells c.args.disk.now) (g.D.Disk.tells c.list.new.self) c.list.ensures.same c.in_ok-files.files.items c.in_ok-files.ensures.files honest)
-
 pub open_synced-requires : goal.open_synced-requires
 open_synced-requires g c = record {
   listed = λ honest. c.deref-2.ensures.value
@@ -24,6 +19,11 @@ open_synced-requires g c = record {
   quiet = quiet_now (g.D.Disk.tells c.args.disk.now) (g.D.Disk.tells c.list.new.self) (g.D.Disk.tells c.sync_all.new.disk) c.list.ensures.same c.sync_all.ensures.stays c.in_ok-files.files.items c.in_ok-files.ensures.files
       (λ honest. subst (λ (ids : _). All (λ (file : FileId). IsQuietAt (get (account (g.D.Disk.tells c.sync_all.new.disk)).files file)) ids) c.deref.ensures.value (c.in_ok-sync_all.ensures.quiet honest));
 }
+
+pub sync_all-requires : goal.sync_all-requires
+sync_all-requires g c = λ honest.
+    subst (λ (ids : _). All (λ (file : FileId). IsFileThere file (account (g.D.Disk.tells c.list.new.self)).files) ids) (sym c.deref.ensures.value)
+    (can_sync (g.D.Disk.tells c.args.disk.now) (g.D.Disk.tells c.list.new.self) c.list.ensures.same c.in_ok-files.files.items c.in_ok-files.ensures.files honest)
 
 pub returns-in_err-files-clause-any_moment : goal.returns-in_err-files-clause-any_moment
 returns-in_err-files-clause-any_moment g c =
