@@ -1,7 +1,9 @@
 -- What a crash leaves while a file is read anew.
-use Rattle.std.proofs.Common.{◌≡◌, inl, inr, ℕ, ◌+◌, ◌≤◌, ◌<◌, List, [], ◌∷◌, ◌++◌, length, get_or, Bool, true, false, IsTrue, ◌↔◌, Option, Some, None, Result, Ok, Err, OnOk, OnErr, refl, sym, ◌∙◌, ap, subst, arith}
+use Rattle.std.proofs.Common.{◌≡◌, inl, inr, ℕ, ◌+◌, ◌≤◌, ◌<◌, List, [], ◌∷◌, ◌++◌, length, get_or, Bool, true, false, IsTrue, ◌↔◌, Option, Some, None, Result, Ok, Err, IfOk, IfErr, OnOk, OnErr, Vec, refl, sym, ◌∙◌, ap, subst, arith}
 use Rattle.std.proofs.lemmas.List.{ext_get_or}
 use Rattle.std.specs.FinMap.{get}
+use Rattle.std.specs.declared.alloc.Global.{Global}
+use Rattle.pg_disk.specs.declared.fault.Fault.{Fault}
 use Rattle.pg_disk.specs.declared.file_id.FileId.{FileId}
 use Rattle.pg_disk.specs.Files.{Files}
 use Rattle.pg_disk.specs.Account.{FileState, Account, account, IsHonest, IsQuiet}
@@ -13,11 +15,11 @@ use Rattle.pg_disk.proofs.Runs.{then_run, weaker, left_weaker, left_from, from_n
 use Rattle.pg_gate.specs.declared.log.Rest.{Rest}
 use Rattle.pg_gate.specs.declared.spans.Span.{Span}
 use Rattle.pg_gate.specs.Gated.{opened, Batches, HasBatches, RestsAt}
-use Rattle.pg_gate.specs.Spans.{AsRead, IsWalked, IsScanned, IsMendable, ReadsAndChanges, StaysOrMends, KeepsAsRead, KeepsAtRest, IsShortOf, IsThereAtRest}
+use Rattle.pg_gate.specs.Spans.{AsRead, IsCut, IsCutFault, IsWalked, IsScanned, IsMendable, ReadsAndChanges, ReadsGates, ReadsWithin, StaysOrMends, KeepsAsRead, KeepsAtRest, IsShortOf, IsThereAtRest}
 use Rattle.pg_gate.proofs.Sealing.{batches_from, quiet_synced}
 use Rattle.pg_gate.proofs.Unique.{short_none}
 use Rattle.pg_gate.proofs.Walking.{walked_front}
-use Rattle.pg_gate.proofs.Reading.{one_read, run_reads, still_there}
+use Rattle.pg_gate.proofs.Reading.{cut_weaker, no_reads, one_read, run_reads, still_there}
 
 -- a crash leaves a quiet file as it reads
 quiet_left : (s : FileState) (left : List ℕ) → IsQuiet s → IsLeft s left → left ≡ s.bytes
@@ -300,3 +302,66 @@ stays_then file old mid new n first second = record {
         file = subst (λ o. StaysOrMends o (get (account new).files file)) (ap (λ m. get m file) a.files) b.file;
       };
 }
+
+-- a sync changes no byte of the file as it reads
+synced_as : (ok : Bool) (o p : Option FileState) (s : FileState) → There (Synced ok) o p → o ≡ Some s → (t : FileState) × (p ≡ Some t) × (t.bytes ≡ s.bytes)
+synced_as ok None p s there e = absurd there
+synced_as ok (Some a) None s there e = absurd there
+synced_as ok (Some a) (Some b) s there e = let same : a ≡ s = cc in (b, refl, there.bytes ∙ ap (λ (u : FileState). u.bytes) same)
+
+-- what stays behind a sync stays
+stays_over : (ok : Bool) (o p q : Option FileState) → There (Synced ok) o p → StaysOrMends p q → StaysOrMends o q
+stays_over ok None p q there stays = tt
+stays_over ok (Some a) None q there stays = absurd there
+stays_over ok (Some a) (Some b) q there stays = λ kept.
+    let is = stays (λ mendable. kept (subst IsMendable there.bytes mendable)) in
+    (is.0, is.1, is.2 ∙ there.bytes)
+
+module _ (file : FileId) (old mid : Option Account) (ok : Bool) (sync : Changes old mid (ChangesFile file (There (Synced ok)))) where
+  as_synced : (P Q : List ℕ → Type 0) → (IsHonest old → (bytes : List ℕ) → P bytes → Q bytes) → AsRead file mid P → AsRead file old Q
+  as_synced P Q then is = λ h s there.
+      let now = synced_as ok (get (account old).files file) (get (account mid).files file) s (sync.step h).file there in
+      then h s.bytes (subst P now.2 (is (sync.kept h) now.0 now.1))
+
+  pub ok_synced : {T E : Type 0} (result : Result T E) (P Q : T → List ℕ → Type 0) → (IsHonest old → (x : T) (bytes : List ℕ) → P x bytes → Q x bytes) → IfOk result (λ x. AsRead file mid (P x)) → IfOk result (λ x. AsRead file old (Q x))
+  ok_synced (Ok x) P Q then is = as_synced (P x) (Q x) (λ h bytes. then h x bytes) is
+  ok_synced (Err e) P Q then is = tt
+
+  pub within_synced : {T E : Type 0} (result : Result T E) (new : Option Account) → OnErr result (AsRead file mid (λ bytes. ReadsWithin bytes (account mid) (account new))) → OnErr result (AsRead file old (λ bytes. ReadsWithin bytes (account old) (account new)))
+  within_synced (Ok x) new is = tt
+  within_synced (Err e) new is =
+      as_synced (λ bytes. ReadsWithin bytes (account mid) (account new)) (λ bytes. ReadsWithin bytes (account old) (account new)) (λ h bytes few. omega (arith, few, (sync.step h).taken)) is
+
+  pub none_synced : {T E : Type 0} (result : Result T E) → OnErr result (AsRead file old (λ bytes. ReadsWithin bytes (account old) (account mid)))
+  none_synced (Ok x) = tt
+  none_synced (Err e) = λ h s there. omega (arith, (sync.step h).taken)
+
+  pub cut_synced : {T : Type 0} (result : Result T Fault) → IfErr result (IsCutFault file (λ at. AsRead file mid (λ bytes. IsCut bytes at))) → IfErr result (IsCutFault file (λ at. AsRead file old (λ bytes. IsCut bytes at)))
+  cut_synced (Ok x) is = tt
+  cut_synced (Err e) is =
+      cut_weaker file (λ at. AsRead file mid (λ bytes. IsCut bytes at)) (λ at. AsRead file old (λ bytes. IsCut bytes at)) e (λ at. as_synced (λ bytes. IsCut bytes at) (λ bytes. IsCut bytes at) (λ h bytes cut. cut)) is
+
+  pub gates_synced : {E : Type 0} (result : Result (Rest × Vec Span Global) E) (new : Option Account) → IfOk result (λ found. AsRead file mid (λ bytes. ReadsGates bytes found.1.items (account mid) (account new)))
+      → IfOk result (λ found. AsRead file old (λ bytes. ReadsGates bytes found.1.items (account old) (account new)))
+  gates_synced result new =
+      ok_synced result (λ found bytes. ReadsGates bytes found.1.items (account mid) (account new)) (λ found bytes. ReadsGates bytes found.1.items (account old) (account new))
+      (λ h found bytes read. record { gates = omega (arith, read.gates, (sync.step h).taken); outside = omega (arith, read.outside, (sync.step h).taken) })
+
+  pub stays_synced : (new : Option Account) → Changes mid new (ReadsAndChanges file StaysOrMends) → Changes old new (ReadsAndChanges file StaysOrMends)
+  stays_synced new second = record {
+    kept = λ h. second.kept (sync.kept h);
+    back = λ h. sync.back (second.back h);
+    step = λ h.
+        let a = sync.step h in
+        let b = second.step (sync.kept h) in
+        record {
+          told = b.told ∙ a.told;
+          count = b.count;
+          taken = omega (arith, a.taken, b.taken);
+          others = λ f ne. b.others f ne ∙ a.others f ne;
+          file = stays_over ok (get (account old).files file) (get (account mid).files file) (get (account new).files file) a.file b.file;
+        };
+  }
+
+  pub sync_stays : Changes old mid (ReadsAndChanges file StaysOrMends)
+  sync_stays = stays_synced mid (reads_stay file mid mid 0 (no_reads mid))

@@ -1,7 +1,9 @@
 -- The journal is found: the generations are listed, then scanned, and the first one is laid where none is there.
-use Rattle.std.proofs.Common.{◌≡◌, ◌≢◌, inl, inr, ⊎_elim, ℕ, List, [], Option, Some, None, refl, sym, ◌∙◌, ap, subst, arith}
+use Rattle.std.proofs.Common.{◌≡◌, ◌≢◌, inl, inr, ⊎_elim, ℕ, List, [], Option, Some, None, Result, Ok, Err, OnErr, refl, sym, ◌∙◌, ap, subst, arith}
 use Rattle.std.specs.Prelude.{MatchOption}
 use Rattle.std.specs.FinMap.{get}
+use Rattle.pg_disk.specs.declared.fault.Fault.{Fault}
+use Rattle.pg_disk.specs.declared.fault.Fault.TheVariants.{Failed, Damaged, Spent, Memory}
 use Rattle.pg_disk.specs.declared.file_id.FileId.{FileId}
 use Rattle.pg_disk.specs.declared.file_id.Kind.TheVariants.{Journal as OfJournal}
 use Rattle.pg_disk.specs.Files.{Files}
@@ -13,8 +15,10 @@ use Rattle.pg_disk.proofs.Runs.{weaker, then_run}
 use Rattle.pg_gate.specs.Gated.{HasNone, StandsFor, file_of}
 use Rattle.pg_gate.specs.Spans.{StaysOrMends}
 use Rattle.pg_gate.specs.declared.log.Rest.{Rest}
+use Rattle.pg_gate.specs.declared.spans.Span.{Span}
+use Rattle.pg_journal.specs.declared.journal.Journal.{Journal}
 use Rattle.pg_journal.specs.Generations.{as_read, bytes_of, first_generation, HasNoneThere, JournalOf}
-use Rattle.pg_journal.specs.Looks.{KeepsGeneration, LeavesJournal, ReadsGenerations}
+use Rattle.pg_journal.specs.Looks.{IsCutAt, IsCutGeneration, IsFound, KeepsAtDamage, KeepsDamaged, KeepsGeneration, LeavesJournal, ReadsGenerations, TakesWithin}
 use Rattle.pg_journal.specs.Stands.{IsIdle, Stands}
 use Rattle.pg_journal.proofs.Leaving.{gone_left, leaves_journal, left_now, no_change}
 use Rattle.pg_journal.proofs.Order.{same_or_not, not_itself_by}
@@ -139,3 +143,41 @@ module _ (old mid : Option Account) (stays : Changes old mid ReadsGenerations) (
           alone = λ none file kind other. idle file kind (λ same. other (same ∙ sym own));
         },
       )
+
+-- what is said where something was found
+pub some_found : {T : Type 0} (o : Option T) (x : T) (P : Type 0) (Q : T → Type 0) → o ≡ Some x → MatchOption o P Q → Q x
+some_found None x P Q e is = cc
+some_found (Some y) x P Q e is = let same : y ≡ x = cc in subst Q same is
+
+-- what is said of the files behind the listing is said of them before it
+module _ (old mid : Option Account) (same : Changes old mid (Reads 0)) where
+  pub listed_found : (new : Option Account) (journal : Journal) (spans : List Span) → (IsHonest mid → IsFound journal spans (account mid).files (account new).files) → IsHonest old → IsFound journal spans (account old).files (account new).files
+  listed_found new journal spans found h = subst (λ m. IsFound journal spans m (account new).files) (same.step h).files (found (same.kept h))
+
+  pub listing_taken : {T E : Type 0} (r : Result T E) → OnErr r (IsHonest old → TakesWithin 0 (account old) (account mid))
+  listing_taken (Ok x) = tt
+  listing_taken (Err e) = λ h. omega (arith, (same.step h).taken)
+
+  -- a fault of the listing
+  pub listing_kept : (e : Fault) → IsCutGeneration old e → KeepsAtDamage old mid e
+  listing_kept Failed is = tt
+  listing_kept (Damaged damage) is = λ h. record {
+    bytes = ap (λ m. bytes_of (get m damage.file)) (same.step h).files;
+    others = λ file kind other. inl (ap (λ m. get m file) (same.step h).files);
+    made = λ file kind absent. ap (λ m. get m file) (same.step h).files ∙ absent;
+  }
+  listing_kept Spent is = absurd is
+  listing_kept Memory is = tt
+
+  -- a fault behind it
+  pub cut_listed : (e : Fault) → IsCutGeneration mid e → IsCutGeneration old e
+  cut_listed Failed is = tt
+  cut_listed (Damaged damage) is = (is.0, is.1, λ h. subst (λ m. IsCutAt m damage.file damage.at) (same.step h).files (is.2 (same.kept h)))
+  cut_listed Spent is = absurd is
+  cut_listed Memory is = tt
+
+  pub kept_listed : (new : Option Account) (e : Fault) → KeepsAtDamage mid new e → KeepsAtDamage old new e
+  kept_listed new Failed is = tt
+  kept_listed new (Damaged damage) is = λ h. subst (λ m. KeepsDamaged damage.file m (account new).files) (same.step h).files (is (same.kept h))
+  kept_listed new Spent is = absurd is
+  kept_listed new Memory is = tt

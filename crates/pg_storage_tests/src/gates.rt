@@ -279,6 +279,9 @@ const WRITE: CallKind = CallKind::Write(PAGE);
 
 const SYNC: CallKind = CallKind::Sync(PAGE);
 
+// The calls that lay a file.
+const LAID: &[CallKind] = &[CallKind::Create(PAGE), WRITE, SYNC];
+
 // The calls of an append, by the length of the batch in bytes.
 const APPENDS: [(usize, &[CallKind]); 4] = [
     (0, &[WRITE, SYNC, WRITE, SYNC]),
@@ -299,15 +302,16 @@ fn are_calls(site: &MemSite, made: u64, calls: &[CallKind]) -> bool {
     n == site.calls()
 }
 
-// Whether a batch of this length is added to a new file by these calls.
+// Whether a file is laid, and a batch of this length is added to it by these calls.
 fn is_added(alloc: Global, length: usize, calls: &[CallKind]) -> Result<bool, Fault> {
     let mut site = MemSite::new(alloc);
     let batch = vec![in alloc; 7; length]?;
     let rest = lay(&mut site, PAGE)?;
+    let is_laid = are_calls(&site, 0, LAID);
     let made = site.calls();
     rest.append(&mut site, &batch)?;
     let bytes = gated(alloc, 1, &batch)?;
-    Ok(are_calls(&site, made, calls) && site.bytes(PAGE) == Some(bytes.as_slice()))
+    Ok(is_laid && are_calls(&site, made, calls) && site.bytes(PAGE) == Some(bytes.as_slice()))
 }
 
 // The first length of a batch that is added otherwise.
