@@ -103,17 +103,20 @@ const CASES: [Case; 33] = [
     (b"\0\0\0\x01\0\0\0\x01\x01\0\0\xff\xff\xff\xffx", None),
 ];
 
-// What decoding gives is spelled, weighed and copied as it stands there, and no shorter front is a message.
-fn spelled(alloc: Global, bytes: &[u8]) -> Result<Option<usize>, AllocError> {
+// Whether a message of so many bytes is read, or none where none is wanted. It is spelled, weighed and copied as it stands
+// there, and no shorter front is a message.
+fn is_read(alloc: Global, bytes: &[u8], wanted: Option<usize>) -> Result<bool, AllocError> {
     let Some((message, length)) = decode(alloc, bytes)? else {
-        return Ok(None);
+        return Ok(wanted.is_none());
     };
     let again = encode(alloc, &message)?;
-    let same = again.as_slice() == &bytes[..length]
-        && weight(&message) == length as u64
-        && message.copy(alloc)? == message
-        && !begins_with_message(alloc, &bytes[..length])?;
-    Ok(same.then_some(length))
+    Ok(
+        wanted == Some(length)
+            && again.as_slice() == &bytes[..length]
+            && weight(&message) == length as u64
+            && message.copy(alloc)? == message
+            && !begins_with_message(alloc, &bytes[..length])?,
+    )
 }
 
 fn begins_with_message(alloc: Global, bytes: &[u8]) -> Result<bool, AllocError> {
@@ -125,10 +128,10 @@ fn begins_with_message(alloc: Global, bytes: &[u8]) -> Result<bool, AllocError> 
     Ok(false)
 }
 
-// The first case of which another front is a message than the table says.
+// The first case that is read otherwise than the table says.
 fn wrong_case(alloc: Global) -> Result<Option<&'static [u8]>, AllocError> {
     for (bytes, length) in CASES {
-        if spelled(alloc, bytes)? != length {
+        if !is_read(alloc, bytes, length)? {
             return Ok(Some(bytes));
         }
     }
@@ -170,8 +173,8 @@ fn decoded_length(alloc: Global, bytes: &[u8]) -> Result<Option<usize>, AllocErr
 // At most 100 properties, and at most 102,399 bytes.
 fn keeps_the_limits(alloc: Global) -> Result<bool, AllocError> {
     Ok(
-        spelled(alloc, &with_properties(alloc, 100)?)? == Some(515)
-            && spelled(alloc, &with_properties(alloc, 101)?)?.is_none()
+        is_read(alloc, &with_properties(alloc, 100)?, Some(515))?
+            && is_read(alloc, &with_properties(alloc, 101)?, None)?
             && decoded_length(alloc, &with_body(alloc, 102_384)?)? == Some(102_399)
             && decoded_length(alloc, &with_body(alloc, 102_385)?)?.is_none(),
     )
