@@ -1,19 +1,11 @@
-//! Scripts over the memory site and the memory source, through the public calls alone.
+//! Scripts over the memory site and the memory source, through the public calls alone, and the stage that these and the
+//! other scenarios share.
 #![tactic(auto)]
 
 #[cfg(test)]
 mod bytewise;
 #[cfg(test)]
-mod crashes;
-#[cfg(test)]
-mod failing;
-#[cfg(test)]
-mod full_counts;
-#[cfg(test)]
 mod messages;
 #[cfg(test)]
-mod openings;
-#[cfg(test)]
 mod scripts;
-#[cfg(test)]
-mod stage;
+pub mod stage;

@@ -2,10 +2,9 @@
 ghost use Rattle.std.specs.Prelude.{◌≡◌};
 ghost use Rattle.pg_disk.specs.Counts.{CountsSource};
 
-use crate::stage::words_of;
 use pg_disk::{Disk, Failed, FileId, ListError, MemSite, MemSource, Site, Source};
-use pg_run::pagebroker;
-use std::alloc::Global;
+use pg_scenarios::stage::run_over;
+use std::alloc::{AllocError, Global};
 use std::test::Fail;
 
 /// A site in memory with counts of its own.
@@ -21,6 +20,12 @@ struct CountedSite {
 struct CountedSource {
     source: MemSource,
     faults: u64,
+}
+
+impl CountedSite {
+    fn is_full(&self) -> bool {
+        self.disk_faults == u64::MAX && self.output_faults == u64::MAX
+    }
 }
 
 // The same outcome, and the count of the device that gave it.
@@ -130,31 +135,50 @@ const CASES: [Case; 9] = [
     (0, 0, 2, 5, b"ok\nok\ncount 0\n", 17),
 ];
 
+/// A site whose counts are full, and at which this call and this emit fail.
+fn site_of(alloc: Global, call: u64, emit: u64) -> Result<CountedSite, AllocError> {
+    let mut site = MemSite::new(alloc);
+    site.fail(&[call])?;
+    site.fail_emit(&[emit])?;
+    Ok(CountedSite {
+        site,
+        disk_faults: u64::MAX,
+        output_faults: u64::MAX,
+    })
+}
+
+/// A source whose count is full, and at which this read fails.
+fn source_of(alloc: Global, read: u64) -> Result<CountedSource, AllocError> {
+    let mut source = MemSource::new(alloc, SCRIPT)?;
+    source.fail(&[read])?;
+    Ok(CountedSource {
+        source,
+        faults: u64::MAX,
+    })
+}
+
+/// Whether a run over devices whose counts are full goes as the case says, and leaves them full.
+fn goes_as(alloc: Global, case: Case) -> Result<bool, AllocError> {
+    let (call, emit, read, wanted, told, calls) = case;
+    let mut site = site_of(alloc, call, emit)?;
+    let mut source = source_of(alloc, read)?;
+    let status = run_over(alloc, &mut source, &mut site)?;
+    let full = site.is_full() && source.faults == u64::MAX;
+    Ok(full && status == wanted && site.site.told() == told && site.site.calls() == calls)
+}
+
+/// The first case in which a run goes otherwise.
+fn wrong_case(alloc: Global) -> Result<Option<Case>, AllocError> {
+    for case in CASES {
+        if !goes_as(alloc, case)? {
+            return Ok(Some(case));
+        }
+    }
+    Ok(None)
+}
+
 #[test]
 fn a_count_of_faults_at_the_end_of_its_type_changes_nothing(rt: HostRuntime) -> Result<(), Fail> {
-    for (call, emit, read, status, told, calls) in CASES {
-        let words = words_of(rt.alloc(), &["pagebroker", "run", "dir"])?;
-        let mut site = MemSite::new(rt.alloc());
-        site.fail(&[call])?;
-        site.fail_emit(&[emit])?;
-        let mut source = MemSource::new(rt.alloc(), SCRIPT)?;
-        source.fail(&[read])?;
-        let mut site = CountedSite {
-            site,
-            disk_faults: u64::MAX,
-            output_faults: u64::MAX,
-        };
-        let mut source = CountedSource {
-            source,
-            faults: u64::MAX,
-        };
-        let ended = pagebroker(rt.alloc(), &words, &mut source, &mut site);
-        assert_eq!(rt; ended, status, "at {call}, {emit} and {read}");
-        assert_eq!(rt; site.site.told(), told, "at {call}, {emit} and {read}");
-        assert_eq!(rt; site.site.calls(), calls, "at {call}, {emit} and {read}");
-        assert_eq!(rt; site.disk_faults, u64::MAX);
-        assert_eq!(rt; site.output_faults, u64::MAX);
-        assert_eq!(rt; source.faults, u64::MAX);
-    }
+    assert!(rt; wrong_case(rt.alloc())?.is_none());
     Ok(())
 }

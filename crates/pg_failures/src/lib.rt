@@ -1,0 +1,9 @@
+//! Runs in which a device fails or that a crash stops, and devices whose counts of faults are full.
+#![tactic(auto)]
+
+#[cfg(test)]
+mod crashes;
+#[cfg(test)]
+mod failing;
+#[cfg(test)]
+mod full_counts;
