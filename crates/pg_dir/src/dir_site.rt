@@ -11,12 +11,23 @@ use std::io::{self, ErrorKind, Write};
 use std::rt::Files;
 
 /// A directory and an output. It tells nothing of what they hold, so all that it promises is that it counts its faults.
-#[derive(Drop)]
 pub struct DirSite<R: Files<File = File>, W> {
     folder: Folder<R>,
     output: W,
     disk_faults: u64,
     output_faults: u64,
+}
+
+// Written out, so that what holds a site lets it go by one call.
+impl<R: Files<File = File> + Drop, W: Drop> Drop for DirSite<R, W> {
+    fn drop(self) {
+        let DirSite {
+            folder: _folder,
+            output: _output,
+            disk_faults: _disk_faults,
+            output_faults: _output_faults,
+        } = self;
+    }
 }
 
 impl<R: Files<File = File> + AllocGlobal + Clone + Drop, W: Write + Drop> DirSite<R, W> {

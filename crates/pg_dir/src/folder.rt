@@ -13,14 +13,21 @@ use std::rt::Files;
 /// The most files that are open at a time, beside the directory itself.
 const MOST_OPEN: usize = 16;
 
-#[derive(Drop)]
 struct OpenFile {
     id: FileId,
     file: File,
 }
 
+impl Drop for OpenFile {
+    fn drop(self) {
+        let OpenFile {
+            id: _id,
+            file: _file,
+        } = self;
+    }
+}
+
 /// A directory. A call of the system that a signal interrupts is made again.
-#[derive(Drop)]
 pub(crate) struct Folder<R: Files<File = File>> {
     runtime: R,
     path: String,
@@ -31,6 +38,18 @@ pub(crate) struct Folder<R: Files<File = File>> {
     // After a sync that failed the system may have dropped what it had still to write, and may answer the next one
     // well. So none is answered well from then on.
     sync_failed: bool,
+}
+
+impl<R: Files<File = File> + Drop> Drop for Folder<R> {
+    fn drop(self) {
+        let Folder {
+            runtime: _runtime,
+            path: _path,
+            directory: _directory,
+            files: _files,
+            sync_failed: _sync_failed,
+        } = self;
+    }
 }
 
 impl<R: Files<File = File> + AllocGlobal + Clone + Drop> Folder<R> {

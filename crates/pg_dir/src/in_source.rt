@@ -9,12 +9,21 @@ use std::io::{self, ErrorKind, Read};
 const MOST_AT_ONCE: usize = 65_536;
 
 /// An input of which nothing is told. Each read asks the input once, unless a signal interrupts it.
-#[derive(Drop)]
 pub struct InSource<R> {
     input: R,
     // What an input leaves in the rest of a buffer isn't known, so none is handed the caller's.
     buffer: Vec<u8>,
     faults: u64,
+}
+
+impl<R: Drop> Drop for InSource<R> {
+    fn drop(self) {
+        let InSource {
+            input: _input,
+            buffer: _buffer,
+            faults: _faults,
+        } = self;
+    }
 }
 
 impl<R: Read + Drop> InSource<R> {
