@@ -1,13 +1,7 @@
-//! Sites and sources in memory, gated files and the journal, through their public calls alone.
+//! Gated files and the journal, over sites in memory and through their public calls alone.
 #![tactic(auto)]
 
-#[cfg(test)]
-mod crashes;
 #[cfg(test)]
 mod gates;
 #[cfg(test)]
 mod journals;
-#[cfg(test)]
-mod sites;
-#[cfg(test)]
-mod sources;
