@@ -2,7 +2,6 @@
 use Rattle.std.proofs.Common.{◌≡◌, ◌⊎◌, inl, inr, ⊎_elim, ℕ, ◌+◌, ◌≤◌, ◌<◌, List, [], ◌∷◌, ◌++◌, length, take, drop, Bool, true, Option, Result, Ok, Err, refl, sym, ◌∙◌, ap, subst, arith, length-drop, take-append-drop}
 use Rattle.std.proofs.lemmas.List.{append-nil, take_all}
 use Rattle.std.specs.Prelude.{IfErr, IsErr, IsErrAnd, IsErrOf, MatchResult}
-use Rattle.std.specs.FinMap.{get}
 use Rattle.pg_disk.specs.declared.fault.Fault.{Fault}
 use Rattle.pg_disk.specs.declared.fault.SiteFault.{SiteFault}
 use Rattle.pg_disk.specs.declared.fault.SiteFault.TheVariants.{Disk, Sink}

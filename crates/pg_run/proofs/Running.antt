@@ -2,7 +2,6 @@
 use Rattle.std.proofs.Common.{◌≡◌, inl, inr, ⊎_elim, ℕ, ◌+◌, List, [], ◌∷◌, ◌++◌, length, take, Option, refl, sym, ◌∙◌, ap, subst, arith, append_assoc, length-append}
 use Rattle.std.proofs.lemmas.List.{append-nil, take_all}
 use Rattle.std.proofs.Math.Seq.{drop-length}
-use Rattle.std.specs.FinMap.{get}
 use Rattle.pg_disk.specs.Account.{Account, account, IsHonest}
 use Rattle.pg_disk.specs.Files.{Files}
 use Rattle.pg_disk.specs.Image.{Leaves, IsImage}

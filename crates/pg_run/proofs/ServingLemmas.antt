@@ -1,5 +1,5 @@
 -- A run that begins with opening.
-use Rattle.std.proofs.Common.{◌≡◌, inl, inr, ⊎_elim, ℕ, List, [], ◌∷◌, ◌++◌, length, take, Option, Some, None, Ok, Err, refl, sym, ◌∙◌, ap, subst, arith, length-append}
+use Rattle.std.proofs.Common.{◌≡◌, inl, inr, ⊎_elim, ℕ, List, [], ◌∷◌, ◌++◌, length, take, Option, Some, None, refl, sym, ◌∙◌, ap, subst, arith, length-append}
 use Rattle.std.proofs.lemmas.List.{append-nil, take_all}
 use Rattle.std.specs.Option.{option_map}
 use Rattle.std.specs.FinMap.{FinMap, get}
@@ -22,7 +22,7 @@ use Rattle.pg_lines.specs.Lines.{IsCut}
 use Rattle.pg_text.specs.Spelling.{ReadAs}
 use Rattle.pg_text.specs.Replies.{reply_line, reply_bytes, BeginsNext}
 use Rattle.pg_engine.specs.declared.engine.Engine.{Engine}
-use Rattle.pg_journal.specs.Generations.{as_left, as_read}
+use Rattle.pg_journal.specs.Generations.{as_read}
 use Rattle.pg_recover.specs.Broker.{Durable, Broker, opened_from, last_state}
 use Rattle.pg_recover.specs.Denotation.{Denotes, durable_part}
 use Rattle.pg_recover.specs.Recovered.{AllQuiet, AreIllFormed, AreKept, BeganQuiet, HasNoEpoch, IsSpentAt, OpensFiles}

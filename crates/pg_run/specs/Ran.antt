@@ -1,6 +1,5 @@
 -- What a run over a source and a site owes, at each of its statuses.
 use Rattle.std.specs.Prelude.{◌≡◌, ◌≢◌, ◌⊎◌, ◌≤◌, ◌+◌, ℕ, List, [], ◌∷◌, ◌++◌, length, take, drop, Option, Some, Result, Ok, Err}
-use Rattle.std.specs.FinMap.{get}
 use Rattle.pg_disk.specs.declared.fault.Fault.{Fault}
 use Rattle.pg_disk.specs.declared.fault.Fault.TheVariants as fault
 use Rattle.pg_disk.specs.declared.fault.SiteFault.TheVariants as site

@@ -1,6 +1,5 @@
 -- What a run of the broker over a site does: its replies, and what a crash at any moment leaves.
 use Rattle.std.specs.Prelude.{◌≡◌, ◌⊎◌, ◌≤◌, ◌+◌, ℕ, List, ◌++◌, length, take, drop, Option}
-use Rattle.std.specs.FinMap.{get}
 use Rattle.pg_disk.specs.Account.{Account, account, IsHonest}
 use Rattle.pg_disk.specs.Files.{Files}
 use Rattle.pg_disk.specs.Moments.{Within}

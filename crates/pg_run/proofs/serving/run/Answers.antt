@@ -4,7 +4,7 @@ use Rattle.pg_run.specs.declared.run.Stop.TheVariants.{Site}
 use Rattle.pg_run.specs.Ran.{IsUnopened, RanOpened, IsAnyBut, status_of}
 use Rattle.pg_run.proofs.AnswerLemmas.{err_weaker}
 use Rattle.pg_run.proofs.Ending.{status_err}
-use Rattle.pg_run.proofs.ServingLemmas.{failed_denoted, opened_ran, opens_denoted, spent_unopened, unopened_ran}
+use Rattle.pg_run.proofs.ServingLemmas.{failed_denoted, opened_ran, spent_unopened, unopened_ran}
 use Rattle.pg_run.proofs.serving.run.Goals as goal
 
 pub returns-in_err-engine-clause-ran : goal.returns-in_err-engine-clause-ran
