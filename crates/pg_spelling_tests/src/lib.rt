@@ -1,8 +1,6 @@
-//! How bytes, texts, fields, messages and entries are spelled, through the public calls alone.
+//! How bytes, texts, fields and messages are spelled, through the public calls alone.
 #![tactic(auto)]
 
-#[cfg(test)]
-mod entries;
 #[cfg(test)]
 mod fields;
 #[cfg(test)]
