@@ -7,7 +7,6 @@ use std::alloc::{AllocError, Global};
 use std::marker::Model;
 
 /// A string of bytes, which contracts see as the list of them.
-#[derive(Debug)]
 pub struct Octets {
     bytes: Vec<u8>,
 }

@@ -7,7 +7,6 @@ use std::alloc::{AllocError, Global};
 use std::marker::Model;
 
 /// A text in UTF-8, which contracts see as the list of its bytes.
-#[derive(Debug)]
 pub struct Text {
     string: String,
 }

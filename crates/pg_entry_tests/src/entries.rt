@@ -198,6 +198,27 @@ fn is_read(alloc: Global, bytes: &[u8]) -> Result<bool, AllocError> {
     }
 }
 
+// The page 0, which is spelled wherever a page may stand.
+const PAGE_ZERO: [&[u8]; 6] = [
+    b"\x07\0\0\0\x01\0\0\0\0\0\0\0\0\0\0\0\x04",
+    b"\x08\0\0\0\x01\0\0\0\0\0\0\0\0",
+    b"\x09\0\0\0\x01\0\0\0\x02\0\x01\0\0\0\x01\0\0\0\0\0\0\0\0",
+    // beside the page 5 of another address
+    b"\x09\0\0\0\x01\0\0\0\x02\0\x02\0\0\0\x01\0\0\0\0\0\0\0\0\0\0\0\x02\0\0\0\0\0\0\0\x05",
+    b"\x0d\0\0\0\x01\0\0\0\0\0\0\0\0",
+    b"\x0f\0\0\0\x01\0\0\0\0\0\0\0\0\0\0\0\x04\0\0\0\x04",
+];
+
+// The first of them that isn't read as what it spells.
+fn unread_page(alloc: Global) -> Result<Option<&'static [u8]>, AllocError> {
+    for bytes in PAGE_ZERO {
+        if !is_spelled(alloc, bytes)? {
+            return Ok(Some(bytes));
+        }
+    }
+    Ok(None)
+}
+
 // The first entry that isn't read as the one of its code.
 fn unread_entry(alloc: Global) -> Result<Option<&'static [u8]>, AllocError> {
     for bytes in SPELLED {
@@ -210,7 +231,8 @@ fn unread_entry(alloc: Global) -> Result<Option<&'static [u8]>, AllocError> {
 
 #[test]
 fn spells_and_reads_each_entry(rt: HostRuntime) -> Result<(), Fail> {
-    assert!(rt; unread_entry(rt.alloc())?.is_none());
+    let alloc = rt.alloc();
+    assert!(rt; unread_entry(alloc)?.is_none() && unread_page(alloc)?.is_none());
     Ok(())
 }
 
@@ -268,7 +290,7 @@ fn refuses_what_is_short_or_long(rt: HostRuntime) -> Result<(), Fail> {
 }
 
 // What spells no list of entries.
-const REFUSED: [&[u8]; 36] = [
+const REFUSED: [&[u8]; 31] = [
     b"",
     // no such code
     b"\0\0\0\0\x07",
@@ -301,12 +323,6 @@ const REFUSED: [&[u8]; 36] = [
     b"\x09\0\0\0\0\0\0\0\x02\0\x01\0\0\0\x01\0\0\0\0\0\0\0\x05",
     b"\x0b\0\0\0\x01\0\0\0\0\0\0\0\0\0\0\0\x09\0\x01\0\0\0\x01",
     b"\x0c\0\0\0\x01\0\0\0\0\0\0\0\x02",
-    // page 0
-    b"\x07\0\0\0\x01\0\0\0\0\0\0\0\0\0\0\0\x04",
-    b"\x08\0\0\0\x01\0\0\0\0\0\0\0\0",
-    b"\x09\0\0\0\x01\0\0\0\x02\0\x01\0\0\0\x01\0\0\0\0\0\0\0\0",
-    b"\x0d\0\0\0\x01\0\0\0\0\0\0\0\0",
-    b"\x0f\0\0\0\x01\0\0\0\0\0\0\0\0\0\0\0\x04\0\0\0\x04",
     // lists of pages: none, twice the same address, not ascending
     b"\x09\0\0\0\x01\0\0\0\x02\0\0",
     b"\x09\0\0\0\x01\0\0\0\x02\0\x02\0\0\0\x01\0\0\0\0\0\0\0\x05\0\0\0\x01\0\0\0\0\0\0\0\x06",

@@ -9,7 +9,8 @@ use Rattle.std.proofs.lemmas.List.Folds.{list_any-append, list_any_at}
 use Rattle.std.proofs.lemmas.List.Quantifiers.{all_pairs_push}
 use Rattle.std.proofs.lemmas.Slice.Eq.{bytes_eq-Decides}
 use Rattle.pg_fold.specs.declared.rows.AddressRow.{AddressRow}
-use Rattle.pg_fold.specs.Fold.{are_settings, most_addresses}
+use Rattle.pg_msg.specs.declared.limits.TheConstants.{MOST_ADDRESSES}
+use Rattle.pg_fold.specs.Fold.{are_settings}
 use Rattle.pg_fold.specs.Rows.{has_address, has_address_named}
 use Rattle.pg_fold.specs.Sound.{AreAddresses}
 use Rattle.pg_fold.proofs.AddressLemmas.{numbered_push}
@@ -22,7 +23,7 @@ each_fails p xs none k d lt = false_from_ne_true (p (get_or xs k d)) (λ passes.
 pub differ : (name other : List ℕ) → bytes_eq name other ≡ false → name ≢ other
 differ name other unequal = not_from_Decides (bytes_eq name other) (bytes_eq-Decides name other) unequal
 
-pub addresses_push : (rows : List AddressRow) (row : AddressRow) → AreAddresses rows → row.id ≡ length rows + 1 → has_address_named rows row.name ≡ false → length rows < most_addresses
+pub addresses_push : (rows : List AddressRow) (row : AddressRow) → AreAddresses rows → row.id ≡ length rows + 1 → has_address_named rows row.name ≡ false → length rows < MOST_ADDRESSES
     → are_settings row.max row.page row.ahead row.dup ≡ true → AreAddresses (rows ++ row ∷ [])
 addresses_push rows row sound next new room settings = record {
   numbered = numbered_push rows row sound.numbered next;

@@ -3,6 +3,7 @@ use Rattle.std.proofs.Common.{◌≡◌, ℕ, ◌+◌, Bool, true, false, not, c
 use Rattle.std.proofs.lemmas.Bool.{and_parts, cases_Bool, cond-true, cond-false, not-true, not_from_false}
 use Rattle.std.proofs.lemmas.List.Elements.{All-nil, All-push}
 use Rattle.pg_disk.specs.declared.fault.Rule.{Rule}
+use Rattle.pg_msg.specs.declared.limits.TheConstants.{MOST_ADDRESSES, MOST_QUEUES}
 use Rattle.pg_msg.specs.Lists.{AreQueues}
 use Rattle.pg_records.specs.declared.entry.Entry.{Entry}
 use Rattle.pg_records.specs.declared.entry.Entry.TheVariants as entry
@@ -47,7 +48,7 @@ sound_changed d (entry.Address address name max page ahead dup) sound fields non
     let new = and_parts _ _ fresh.1 in
     let settings = holds _ _ _ (others_hold _ _ _ none) in
     record {
-      addresses = addresses_push d.addresses row sound.addresses (eqb-true address (length d.addresses + 1) fresh.0) (not-true _ new.0) (ltb-true (length d.addresses) 1000 new.1) settings;
+      addresses = addresses_push d.addresses row sound.addresses (eqb-true address (length d.addresses + 1) fresh.0) (not-true _ new.0) (ltb-true (length d.addresses) MOST_ADDRESSES new.1) settings;
       queues = queues_beside d.addresses row d.next d.queues sound.queues;
       messages = sound.messages;
       held = held_beside d.addresses row d.queues d.journaled sound.held;
@@ -60,7 +61,7 @@ sound_changed d (entry.Queue queue address name filter) sound fields none =
     let room = and_parts _ _ known.1 in
     record {
       addresses = sound.addresses;
-      queues = queues_push d.addresses d.next d.queues row sound.queues (eqb-true queue d.next fresh.0) (not-true _ new.1) known.0 (ltb-true _ 1000 room.0) (empty filter room.1);
+      queues = queues_push d.addresses d.next d.queues row sound.queues (eqb-true queue d.next fresh.0) (not-true _ new.1) known.0 (ltb-true _ MOST_QUEUES room.0) (empty filter room.1);
       messages = sound.messages;
       held = held_with d.addresses d.queues row d.journaled sound.held;
     }

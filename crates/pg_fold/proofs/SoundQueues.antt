@@ -10,7 +10,7 @@ use Rattle.std.proofs.lemmas.List.Quantifiers.{all_pairs_push}
 use Rattle.std.proofs.lemmas.List.Sums.{sum_by-append}
 use Rattle.pg_fold.specs.declared.rows.AddressRow.{AddressRow}
 use Rattle.pg_fold.specs.declared.rows.QueueRow.{QueueRow}
-use Rattle.pg_fold.specs.Fold.{most_queues}
+use Rattle.pg_msg.specs.declared.limits.TheConstants.{MOST_QUEUES}
 use Rattle.pg_fold.specs.Rows.{has_address, has_queue_named, queues_at, without_queue}
 use Rattle.pg_fold.specs.Sound.{AreQueues}
 use Rattle.pg_fold.proofs.SoundAddresses.{differ, each_fails, still_address}
@@ -19,13 +19,13 @@ use Rattle.pg_fold.proofs.SoundAddresses.{differ, each_fails, still_address}
 pub count_push : (rows : List QueueRow) (row : QueueRow) (address : ℕ) → queues_at (rows ++ row ∷ []) address ≡ queues_at rows address + cond (row.address == address) 1 0
 count_push rows row address = sum_by-append (λ (r : QueueRow). cond (r.address == address) 1 0) rows (row ∷ []) ∙ ap (λ n. queues_at rows address + n) (omega arith)
 
-few_push : (rows : List QueueRow) (row : QueueRow) → ((address : ℕ) → queues_at rows address ≤ most_queues) → queues_at rows row.address < most_queues → (address : ℕ) → queues_at (rows ++ row ∷ []) address ≤ most_queues
+few_push : (rows : List QueueRow) (row : QueueRow) → ((address : ℕ) → queues_at rows address ≤ MOST_QUEUES) → queues_at rows row.address < MOST_QUEUES → (address : ℕ) → queues_at (rows ++ row ∷ []) address ≤ MOST_QUEUES
 few_push rows row few room address =
     let count = count_push rows row address in
     elim (cases_Bool (row.address == address)) [
       | inl here ↦
           let same : row.address ≡ address = eqb-true row.address address here in
-          let there : queues_at rows address < most_queues = subst (λ a. queues_at rows a < most_queues) same room in
+          let there : queues_at rows address < MOST_QUEUES = subst (λ a. queues_at rows a < MOST_QUEUES) same room in
           let one : ◌≡◌ {A = ℕ} (cond (row.address == address) 1 0) 1 = cond-true (row.address == address) 1 0 here in
           omega (arith, count, there, one)
       | inr elsewhere ↦
@@ -45,7 +45,7 @@ count_without p q (row ∷ rows) =
     (λ _. omega (arith, others, count_cons p row rows))
 
 pub queues_push : (addresses : List AddressRow) (next : ℕ) (rows : List QueueRow) (row : QueueRow) → AreQueues addresses next rows → row.id ≡ next → has_queue_named rows row.name ≡ false → has_address addresses row.address ≡ true
-    → queues_at rows row.address < most_queues → row.filter ≡ [] → AreQueues addresses (next + 1) (rows ++ row ∷ [])
+    → queues_at rows row.address < MOST_QUEUES → row.filter ≡ [] → AreQueues addresses (next + 1) (rows ++ row ∷ [])
 queues_push addresses next rows row sound is new placed room plain = record {
   ascending = all_pairs_push (λ a b. a.id < b.id) rows row sound.ascending (λ k d lt. omega (arith, sound.below k d lt, is));
   below = All-push (λ r. r.id < next + 1) rows row (All-weaker (λ r. r.id < next) (λ r. r.id < next + 1) (λ r lt. omega (arith, lt)) rows sound.below) (omega (arith, is));

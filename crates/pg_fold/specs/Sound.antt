@@ -1,28 +1,31 @@
 -- What is true of every state that entries give.
 use Rattle.std.specs.Prelude.{◌≡◌, ◌≢◌, ◌≤◌, ◌<◌, ℕ, true, false, List, [], length, All, AllPairs}
 use Rattle.std.specs.List.{list_all}
+use Rattle.pg_msg.specs.declared.limits.TheConstants.{MOST_ADDRESSES, MOST_QUEUES}
 use Rattle.pg_msg.specs.Messages.{IsMessage}
 use Rattle.pg_fold.specs.declared.durable.Durable.{Durable}
 use Rattle.pg_fold.specs.declared.rows.AddressRow.{AddressRow}
 use Rattle.pg_fold.specs.declared.rows.JournaledRow.{JournaledRow}
 use Rattle.pg_fold.specs.declared.rows.QueueRow.{QueueRow}
-use Rattle.pg_fold.specs.Fold.{are_settings, most_addresses, most_queues}
+use Rattle.pg_fold.specs.Fold.{are_settings}
 use Rattle.pg_fold.specs.Rows.{has_address, has_queue_at, queues_at, is_held, same_id, AreNumbered, AreAscending}
 
--- The addresses have their places for ids and names that differ, they aren't too many, and their settings are in their ranges.
+-- The addresses have their places for ids and names that differ, they aren't too many, and their settings are in their
+-- ranges.
 pub record AreAddresses (rows : List AddressRow) : Type 0 where
   pub numbered : AreNumbered rows
   pub names : AllPairs (λ row other. row.name ≢ other.name) rows
-  pub few : length rows ≤ most_addresses
+  pub few : length rows ≤ MOST_ADDRESSES
   pub settings : All (λ row. are_settings row.max row.page row.ahead row.dup ≡ true) rows
 
--- The live queues have ascending ids below the next one and names that differ, their addresses are there and have not too many of them, and none has a filter.
+-- The live queues have ascending ids below the next one and names that differ, their addresses are there and have not
+-- too many of them, and none has a filter.
 pub record AreQueues (addresses : List AddressRow) (next : ℕ) (rows : List QueueRow) : Type 0 where
   pub ascending : AreAscending rows
   pub below : All (λ row. row.id < next) rows
   pub names : AllPairs (λ row other. row.name ≢ other.name) rows
   pub placed : All (λ row. has_address addresses row.address ≡ true) rows
-  pub few : (address : ℕ) → queues_at rows address ≤ most_queues
+  pub few : (address : ℕ) → queues_at rows address ≤ MOST_QUEUES
   pub unfiltered : All (λ row. row.filter ≡ []) rows
 
 -- a message has its address, some queue holds it, and those that do are live ones of the address

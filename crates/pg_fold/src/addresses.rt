@@ -10,7 +10,6 @@ use std::marker::Model;
 /// The addresses, in the order of their making. They are never removed, so the id of each is its place, from 1.
 ///
 /// A name is looked for by a walk over all of them, for now.
-#[derive(Debug)]
 pub struct AddressRows {
     rows: Vec<AddressRow>,
 }

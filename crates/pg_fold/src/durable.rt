@@ -1,7 +1,9 @@
 // The state that entries give.
-ghost use Rattle.std.specs.Prelude.{◌≡◌, IfOk, IfErr};
+ghost use Rattle.std.specs.Prelude.{◌≡◌, ◌+◌, ◌<◌, false, length, IfOk, IfErr};
 ghost use Rattle.pg_records.specs.declared.entry.Entry.TheVariants as entries;
-ghost use Rattle.pg_fold.specs.Fold.{fresh, rule_of, IsApplied, IsBrokenBy, are_settings};
+ghost use Rattle.pg_msg.specs.declared.message.Message.{Message};
+ghost use Rattle.pg_fold.specs.Fold.{changed, fresh, rule_of, unless, IsApplied, IsBrokenBy, are_settings};
+ghost use Rattle.pg_fold.specs.Rows.{has_queue_named};
 
 use crate::addresses::AddressRows;
 use crate::fold_error::FoldError;
@@ -10,21 +12,14 @@ use crate::queues::QueueRows;
 use crate::rows::{AddressRow, JournaledRow, QueueRow};
 use pg_bytes::Text;
 use pg_disk::Rule;
-use pg_msg::{Message, MessageId, QueueIds};
+use pg_msg::{
+    GREATEST_AHEAD, GREATEST_DUP, GREATEST_MAX, GREATEST_PAGE, MOST_ADDRESSES, MOST_QUEUES,
+    Message, MessageId, QUEUE_ID_LIMIT, QueueIds,
+};
 use pg_records::Entry;
-use std::alloc::Global;
-
-/// There are at most so many addresses.
-const MOST_ADDRESSES: usize = 1000;
-
-/// An address has at most so many live queues.
-const MOST_QUEUES: usize = 1000;
-
-/// No queue has this id or a greater one.
-const QUEUE_IDS: u32 = 4_294_967_295;
+use std::alloc::{AllocError, Global};
 
 /// What outlives a run, as the journal's entries give it. `docs/FORMATS.md` has the condition and the effect of each.
-#[derive(Debug)]
 pub struct Durable {
     /// The epoch of the last opening, 0 before the first.
     pub epoch: u32,
@@ -62,15 +57,57 @@ impl Durable {
         }
     }
 
-    /// The state behind the entry. `Broken` comes where the entry's condition fails, with the rule of the first part that
-    /// does. Filters aren't built: a queue with one breaks `Name`, where it doesn't break `Repeat`. Neither are the entries
-    /// on pages, transactions, duplicate ids and large messages, which break `Name`.
-    pub fn apply(self, alloc: Global, entry: Entry) -> Result<Durable, FoldError>
-        ensures applied { IfOk result (IsApplied self entry) }
-        ensures broken { IfErr result (IsBrokenBy (rule_of self entry)) }
+    /// The rule of the first part of the entry's condition that fails, and None where the condition holds. Filters
+    /// aren't built: a queue with one breaks `Name`, where it doesn't break `Repeat`. Neither are the entries on pages,
+    /// transactions, duplicate ids and large messages, which break `Name`.
+    pub fn broken_by(&self, entry: &Entry) -> Option<Rule>
+        ensures { result ≡ rule_of self.now entry.now }
     {
         match entry {
-            Entry::Epoch { epoch } => self.begin_epoch(epoch),
+            Entry::Epoch { epoch } => unless(self.epoch < *epoch, Rule::Repeat),
+            Entry::Address {
+                address,
+                name,
+                max,
+                page,
+                ahead,
+                dup,
+            } => self.broken_by_address(*address, name, *max, *page, *ahead, *dup),
+            Entry::Queue {
+                queue,
+                address,
+                name,
+                filter,
+            } => self.broken_by_queue(*queue, *address, name, filter),
+            Entry::DropQueue { queue } => unless(self.queues.has(*queue), Rule::Name),
+            Entry::Add {
+                address,
+                queues,
+                message,
+            } => self.broken_by_message(*address, queues, message.id),
+            Entry::Ack { queue, message } => unless(
+                self.journaled.has_holder(*message, *queue),
+                Rule::Name,
+            ),
+            Entry::NextQueue { queue } => unless(self.next <= *queue, Rule::Repeat),
+            Entry::AckAt { .. }
+            | Entry::PageDone { .. }
+            | Entry::PageTx { .. }
+            | Entry::Dup { .. }
+            | Entry::LargeAdd { .. }
+            | Entry::LargeAck { .. }
+            | Entry::FirstPage { .. }
+            | Entry::AckRun { .. } => Some(Rule::Name),
+        }
+    }
+
+    /// The state behind the entry, whose condition holds. Fails only where there is no memory.
+    pub fn change(self, alloc: Global, entry: Entry) -> Result<Durable, AllocError>
+        requires { rule_of self entry ≡ None }
+        ensures { IfOk result (λ after. after ≡ changed self entry) }
+    {
+        match entry {
+            Entry::Epoch { epoch } => Ok(self.begin_epoch(epoch)),
             Entry::Address {
                 address,
                 name,
@@ -84,28 +121,94 @@ impl Durable {
                 address,
                 name,
                 filter,
-            } => self.add_queue(queue, address, name, filter),
-            Entry::DropQueue { queue } => self.drop_queue(alloc, queue),
+            } => self.add_queue(alloc, queue, address, name, filter),
+            Entry::DropQueue { queue } => Ok(self.drop_queue(alloc, queue)),
             Entry::Add {
                 address,
                 queues,
                 message,
             } => self.add_message(address, queues, message),
-            Entry::Ack { queue, message } => self.acknowledge(alloc, queue, message),
-            Entry::NextQueue { queue } => self.set_next(queue),
-            _ => Err(FoldError::Broken(Rule::Name)),
+            Entry::Ack { queue, message } => Ok(self.acknowledge(alloc, queue, message)),
+            Entry::NextQueue { queue } => Ok(self.set_next(queue)),
+            // The condition of none of these holds yet.
+            Entry::AckAt { .. }
+            | Entry::PageDone { .. }
+            | Entry::PageTx { .. }
+            | Entry::Dup { .. }
+            | Entry::LargeAdd { .. }
+            | Entry::LargeAck { .. }
+            | Entry::FirstPage { .. }
+            | Entry::AckRun { .. } => Ok(self),
         }
     }
 
-    fn begin_epoch(mut self, epoch: u32) -> Result<Durable, FoldError>
-        ensures applied { IfOk result (IsApplied self (entries.Epoch epoch)) }
-        ensures broken { IfErr result (IsBrokenBy (rule_of self (entries.Epoch epoch))) }
+    /// The state behind the entry. `Broken` comes where the entry's condition fails, with the rule of the first part
+    /// that does.
+    pub fn apply(self, alloc: Global, entry: Entry) -> Result<Durable, FoldError>
+        ensures applied { IfOk result (IsApplied self entry) }
+        ensures broken { IfErr result (IsBrokenBy (rule_of self entry)) }
     {
-        if epoch <= self.epoch {
-            return Err(FoldError::Broken(Rule::Repeat));
+        match self.broken_by(&entry) {
+            Some(rule) => Err(FoldError::Broken(rule)),
+            None => Ok(self.change(alloc, entry)?),
         }
+    }
+
+    fn broken_by_address(
+        &self,
+        address: u32,
+        name: &Text,
+        max: u64,
+        page: u64,
+        ahead: u64,
+        dup: u32,
+    ) -> Option<Rule>
+        ensures { result ≡ rule_of self.now (entries.Address address name.now max page ahead dup) }
+    {
+        let count = self.addresses.as_slice().len();
+        if address as usize != count + 1
+            || self.addresses.has_named(name)
+            || count >= MOST_ADDRESSES
+        {
+            return Some(Rule::Repeat);
+        }
+        unless(are_in_range(max, page, ahead, dup), Rule::Name)
+    }
+
+    fn broken_by_queue(&self, queue: u32, address: u32, name: &Text, filter: &Text) -> Option<Rule>
+        ensures { result ≡ rule_of self.now (entries.Queue queue address name.now filter.now) }
+    {
+        if queue != self.next || queue >= QUEUE_ID_LIMIT || self.queues.has_named(name) {
+            return Some(Rule::Repeat);
+        }
+        if !self.addresses.has(address)
+            || self.queues.count_at(address) >= MOST_QUEUES
+            || !filter.as_str().is_empty()
+        {
+            return Some(Rule::Name);
+        }
+        None
+    }
+
+    // The rule that a message with this id breaks, given to these queues of the address.
+    fn broken_by_message(&self, address: u32, queues: &QueueIds, id: MessageId) -> Option<Rule>
+        ensures { (message : Message) → message.id ≡ id
+            → result ≡ rule_of self.now (entries.Add address queues.now message) }
+    {
+        if !self.addresses.has(address)
+            || !self.queues.have_at(address, queues.as_slice())
+            || id.epoch > self.epoch
+        {
+            return Some(Rule::Name);
+        }
+        unless(!self.journaled.has(id), Rule::Repeat)
+    }
+
+    fn begin_epoch(mut self, epoch: u32) -> Durable
+        ensures { result ≡ changed self (entries.Epoch epoch) }
+    {
         self.epoch = epoch;
-        Ok(self)
+        self
     }
 
     fn add_address(
@@ -116,20 +219,10 @@ impl Durable {
         page: u64,
         ahead: u64,
         dup: u32,
-    ) -> Result<Durable, FoldError>
-        ensures applied { IfOk result (IsApplied self (entries.Address address name max page ahead dup)) }
-        ensures broken { IfErr result (IsBrokenBy (rule_of self (entries.Address address name max page ahead dup))) }
+    ) -> Result<Durable, AllocError>
+        requires { address ≡ length self.addresses + 1 }
+        ensures { IfOk result (λ after. after ≡ changed self (entries.Address address name max page ahead dup)) }
     {
-        let count = self.addresses.as_slice().len();
-        if address as usize != count + 1
-            || self.addresses.has_named(&name)
-            || count >= MOST_ADDRESSES
-        {
-            return Err(FoldError::Broken(Rule::Repeat));
-        }
-        if !are_in_range(max, page, ahead, dup) {
-            return Err(FoldError::Broken(Rule::Name));
-        }
         self.addresses.push(AddressRow {
             id: address,
             name,
@@ -143,56 +236,34 @@ impl Durable {
     }
 
     fn add_queue(
-        self,
+        mut self,
+        alloc: Global,
         queue: u32,
         address: u32,
         name: Text,
         filter: Text,
-    ) -> Result<Durable, FoldError>
-        ensures applied { IfOk result (IsApplied self (entries.Queue queue address name filter)) }
-        ensures broken { IfErr result (IsBrokenBy (rule_of self (entries.Queue queue address name filter))) }
+    ) -> Result<Durable, AllocError>
+        requires new { has_queue_named self.queues name ≡ false }
+        requires left { self.next < QUEUE_ID_LIMIT }
+        ensures { IfOk result (λ after. after ≡ changed self (entries.Queue queue address name filter)) }
     {
-        if queue != self.next || queue >= QUEUE_IDS || self.queues.has_named(&name) {
-            return Err(FoldError::Broken(Rule::Repeat));
-        }
-        if !self.addresses.has(address)
-            || self.queues.count_at(address) >= MOST_QUEUES
-            || !filter.as_str().is_empty()
-        {
-            return Err(FoldError::Broken(Rule::Name));
-        }
-        let Durable {
-            epoch,
-            addresses,
-            queues,
-            next,
-            journaled,
-        } = self;
-        let row = QueueRow {
+        let queues = std::mem::replace(&mut self.queues, QueueRows::new(alloc));
+        self.queues = queues.push(QueueRow {
             id: queue,
             address,
             name,
             filter,
-        };
-        Ok(Durable {
-            epoch,
-            addresses,
-            queues: queues.push(row)?,
-            next: next + 1,
-            journaled,
-        })
+        })?;
+        self.next += 1;
+        Ok(self)
     }
 
-    fn drop_queue(mut self, alloc: Global, queue: u32) -> Result<Durable, FoldError>
-        ensures applied { IfOk result (IsApplied self (entries.DropQueue queue)) }
-        ensures broken { IfErr result (IsBrokenBy (rule_of self (entries.DropQueue queue))) }
+    fn drop_queue(mut self, alloc: Global, queue: u32) -> Durable
+        ensures { result ≡ changed self (entries.DropQueue queue) }
     {
-        if !self.queues.has(queue) {
-            return Err(FoldError::Broken(Rule::Name));
-        }
         self.queues.remove(queue);
         self.journaled.remove_holder(alloc, queue);
-        Ok(self)
+        self
     }
 
     fn add_message(
@@ -200,19 +271,9 @@ impl Durable {
         address: u32,
         queues: QueueIds,
         message: Message,
-    ) -> Result<Durable, FoldError>
-        ensures applied { IfOk result (IsApplied self (entries.Add address queues message)) }
-        ensures broken { IfErr result (IsBrokenBy (rule_of self (entries.Add address queues message))) }
+    ) -> Result<Durable, AllocError>
+        ensures { IfOk result (λ after. after ≡ changed self (entries.Add address queues message)) }
     {
-        if !self.addresses.has(address)
-            || !self.queues.have_at(address, queues.as_slice())
-            || message.id.epoch > self.epoch
-        {
-            return Err(FoldError::Broken(Rule::Name));
-        }
-        if self.journaled.has(message.id) {
-            return Err(FoldError::Broken(Rule::Repeat));
-        }
         self.journaled.push(JournaledRow {
             address,
             message,
@@ -221,41 +282,35 @@ impl Durable {
         Ok(self)
     }
 
-    fn acknowledge(
-        mut self,
-        alloc: Global,
-        queue: u32,
-        message: MessageId,
-    ) -> Result<Durable, FoldError>
-        ensures applied { IfOk result (IsApplied self (entries.Ack queue message)) }
-        ensures broken { IfErr result (IsBrokenBy (rule_of self (entries.Ack queue message))) }
+    fn acknowledge(mut self, alloc: Global, queue: u32, message: MessageId) -> Durable
+        ensures { result ≡ changed self (entries.Ack queue message) }
     {
-        if !self.journaled.has_holder(message, queue) {
-            return Err(FoldError::Broken(Rule::Name));
-        }
         self.journaled.acknowledge(alloc, message, queue);
-        Ok(self)
+        self
     }
 
-    fn set_next(mut self, queue: u32) -> Result<Durable, FoldError>
-        ensures applied { IfOk result (IsApplied self (entries.NextQueue queue)) }
-        ensures broken { IfErr result (IsBrokenBy (rule_of self (entries.NextQueue queue))) }
+    fn set_next(mut self, queue: u32) -> Durable
+        ensures { result ≡ changed self (entries.NextQueue queue) }
     {
-        if queue < self.next {
-            return Err(FoldError::Broken(Rule::Repeat));
-        }
         self.next = queue;
-        Ok(self)
+        self
     }
+}
+
+// The rule, where the condition fails.
+fn unless(condition: bool, broken: Rule) -> Option<Rule>
+    ensures { result ≡ unless condition broken None }
+{
+    if condition { None } else { Some(broken) }
 }
 
 // Whether the settings of an address are in their ranges.
 fn are_in_range(max: u64, page: u64, ahead: u64, dup: u32) -> bool
     ensures { result ≡ are_settings max page ahead dup }
 {
-    max <= 1_000_000_000_000
+    max <= GREATEST_MAX
         && 1 <= page
-        && page <= 1_000_000_000
-        && ahead <= 1_000_000_000
-        && dup <= 65_535
+        && page <= GREATEST_PAGE
+        && ahead <= GREATEST_AHEAD
+        && dup <= GREATEST_DUP
 }

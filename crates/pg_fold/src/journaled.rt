@@ -9,9 +9,8 @@ use std::marker::Model;
 
 /// The messages that are held in the journal, in the order in which they were added.
 ///
-/// A message that is newer than all before it is known to be new without a look at them. An acknowledgement looks for its
-/// message from the front on, and moves those behind it where it is taken out, for now.
-#[derive(Debug)]
+/// A message that is newer than all before it is known to be new without a look at them. An acknowledgement looks for
+/// its message from the front on, and moves those behind it where it is taken out, for now.
 pub struct JournaledRows {
     rows: Vec<JournaledRow>,
     // No id is above this one.
@@ -161,9 +160,9 @@ fn release(alloc: Global, row: &mut JournaledRow, queue: u32)
 fn without(holders: QueueIds, queue: u32) -> QueueIds
     ensures { result ≡ without_number queue holders }
 {
-    let mut numbers = holders.into_vec();
-    numbers.retain(|number| *number != queue);
-    QueueIds::from_vec(numbers)
+    let mut ids = holders.into_vec();
+    ids.retain(|id| *id != queue);
+    QueueIds::from_vec(ids)
 }
 
 // Takes the queue from the holders of each message.

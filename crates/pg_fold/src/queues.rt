@@ -12,9 +12,9 @@ use std::marker::Model;
 
 /// The live queues, in the order of their making. The ids of those that a journal makes ascend.
 ///
-/// A name is looked for in a set and an id by a binary search, and the queues of each address are counted as they come and go,
-/// so none of these costs time that grows with all the queues. Only taking a queue out does, since those behind it move up.
-#[derive(Debug)]
+/// A name is looked for in a set and an id by a binary search, and the queues of each address are counted as they come
+/// and go, so none of these costs time that grows with all the queues. Only taking a queue out does, since those behind
+/// it move up.
 pub struct QueueRows {
     rows: Vec<QueueRow>,
     // Whether the ids ascend. They do unless a state was put together from parts that belong to different ones.
@@ -191,7 +191,8 @@ fn first_place(rows: &[QueueRow], id: u32) -> Option<usize>
 // Counts one queue more at the address. Fails only where there is no memory for it.
 fn count_up(counts: &mut IndexMap<u32, usize>, address: u32) -> Result<(), AllocError>
     requires { counted counts.old address + 1 < 2 ^ 64 }
-    ensures { OnOk result ((other : ℕ) → counted counts.new other ≡ counted counts.old other + (if address == other then 1 else 0)) }
+    ensures { OnOk result ((other : ℕ)
+        → counted counts.new other ≡ counted counts.old other + (if address == other then 1 else 0)) }
 {
     let count = counts.get(&address).copied().unwrap_or(0);
     counts.insert(address, count + 1)?;

@@ -4,7 +4,7 @@ use pg_bytes::Text;
 use pg_msg::{Message, QueueIds};
 
 /// An address. `docs/FORMATS.md` gives the ranges of the settings.
-#[derive(Debug, PartialEq, Eq)]
+#[derive(PartialEq, Eq)]
 pub struct AddressRow {
     /// Its place among the addresses, from 1.
     pub id: u32,
@@ -36,7 +36,7 @@ impl Drop for AddressRow {
 }
 
 /// A live queue.
-#[derive(Debug, PartialEq, Eq)]
+#[derive(PartialEq, Eq)]
 pub struct QueueRow {
     pub id: u32,
     /// The id of its address.
@@ -58,7 +58,7 @@ impl Drop for QueueRow {
 }
 
 /// A message that is held in the journal.
-#[derive(Debug, PartialEq, Eq)]
+#[derive(PartialEq, Eq)]
 pub struct JournaledRow {
     /// The id of its address.
     pub address: u32,

@@ -25,7 +25,8 @@ Ends true behind pending rest_old rest_new = behind ≡ 10 ∷ pending
 Ends false behind pending rest_old rest_new = (behind ≡ []) × (pending ≡ []) × IsAtEnd rest_old rest_new
 
 -- The next line. Of one that is too long so much is kept that it still is.
-pub record TookLine (old new : LineReader) (rest_old rest_new : Option (List ℕ)) (line : List ℕ) (ended : Bool) : Type 0 where
+pub record TookLine (old new : LineReader) (rest_old rest_new : Option (List ℕ)) (line : List ℕ)
+    (ended : Bool) : Type 0 where
   pub taken : List ℕ
   pub source : TakesFrom rest_old rest_new taken
   pub count : left_of new + length taken ≡ left_of old
@@ -36,8 +37,8 @@ pub record TookLine (old new : LineReader) (rest_old rest_new : Option (List ℕ
   pub ends : Ends ended behind (pending_of new) rest_old rest_new
   pub kept : line ≡ take (longest_line + 1) whole
 
--- No line was read. Where the source failed or the limit was met, no line end stands in what was pending and what was read up
--- to that place.
+-- No line was read. Where the source failed or the limit was met, no line end stands in what was pending and what was
+-- read up to that place.
 abbrev pub StopsAt : ReadError → ℕ → List ℕ → List ℕ → Type 0
 StopsAt Failed left pending taken = (length taken ≤ left) × HasNoLineEnd (pending ++ taken)
 StopsAt TooLong left pending taken = (length taken ≡ left + 1) × HasNoLineEnd (pending ++ take left taken)

@@ -56,18 +56,21 @@ impl LineReader {
         })
     }
 
-    /// Puts the next line, without its line end, in place of what `line` has, and answers whether a line end stood behind it.
-    /// Where none did, that was the end of the source, and the line may be empty. Of a line that is too long only so many
-    /// bytes are kept that it still is. All lines that end within the limit are given before the byte past it is read.
-    /// After an error what was read of the line is lost, and nothing is said of what a later call answers.
+    /// Puts the next line, without its line end, in place of what `line` has, and answers whether a line end stood
+    /// behind it. Where none did, that was the end of the source, and the line may be empty. Of a line that is too long
+    /// only so many bytes are kept that it still is. All lines that end within the limit are given before the byte past
+    /// it is read. After an error what was read of the line is lost, and nothing is said of what a later call answers.
     pub fn next_line<R: Source>(
         &mut self,
         source: &mut R,
         line: &mut Vec<u8>,
     ) -> Result<bool, ReadError>
-        ensures line { IfOk result (λ ended. TookLine self.old self.new (R.rest source.old) (R.rest source.new) line.new.items ended) }
-        ensures stopped { IfErr result (λ error. StoppedReading self.old (R.rest source.old) (R.rest source.new) error) }
-        ensures goes_on { IfOk result (λ ended. IsTrue ended → left_of self.new + length (pending_of self.new) < left_of self.old + length (pending_of self.old)) }
+        ensures line { IfOk result
+            (λ ended. TookLine self.old self.new (R.rest source.old) (R.rest source.new) line.new.items ended) }
+        ensures stopped { IfErr result
+            (λ error. StoppedReading self.old (R.rest source.old) (R.rest source.new) error) }
+        ensures goes_on { IfOk result (λ ended. IsTrue ended
+            → left_of self.new + length (pending_of self.new) < left_of self.old + length (pending_of self.old)) }
         ensures cause { CountsReading (R.faults source.old) (R.faults source.new) result }
     {
         line.clear();
@@ -99,7 +102,8 @@ impl LineReader {
         Ok(true)
     }
 
-    // Reads into the buffer, where nothing is pending, and answers how many bytes are pending now. None are at the end only.
+    // Reads into the buffer, where nothing is pending, and answers how many bytes are pending now. None are at the end
+    // only.
     fn refill<R: Source>(&mut self, source: &mut R) -> Result<usize, ReadError>
         requires { pending_of self.old ≡ [] }
         ensures ok { IfOk result (λ count. Refilled self.old self.new (R.rest source.old) (R.rest source.new) count) }
@@ -127,7 +131,8 @@ impl LineReader {
         requires some { 0 < most }
         requires within { most ≤ length buffer.old }
         ensures count { IfOk result (λ count. count ≤ most) }
-        ensures taken { IfOk result (λ count. TakesFrom (R.rest source.old) (R.rest source.new) (take count buffer.new)) }
+        ensures taken { IfOk result
+            (λ count. TakesFrom (R.rest source.old) (R.rest source.new) (take count buffer.new)) }
         ensures end { IfOk result (λ count. count ≡ 0 → IsAtEnd (R.rest source.old) (R.rest source.new)) }
         ensures err { OnErr result (R.rest source.new ≡ R.rest source.old) }
         ensures cause { CountsSource (R.faults source.old) (R.faults source.new) result }
@@ -137,7 +142,8 @@ impl LineReader {
 
     // Looks for the byte past the limit, once nothing is left of the limit.
     fn probe<R: Source>(source: &mut R) -> Result<(), ReadError>
-        ensures ok { OnOk result (TakesFrom (R.rest source.old) (R.rest source.new) [] × IsAtEnd (R.rest source.old) (R.rest source.new)) }
+        ensures ok { OnOk result (TakesFrom (R.rest source.old) (R.rest source.new) []
+            × IsAtEnd (R.rest source.old) (R.rest source.new)) }
         ensures err { IfErr result (λ error. Refuses error 0 (R.rest source.old) (R.rest source.new)) }
         ensures cause { CountsReading (R.faults source.old) (R.faults source.new) result }
     {

@@ -7,6 +7,7 @@ use Rattle.std.proofs.lemmas.Option.{cond_some}
 use Rattle.std.proofs.lemmas.List.Elements.{All-nil, All-cons, All-head, All-tail}
 use Rattle.std.proofs.lemmas.List.{take_at, drop_at, take-append-drop, length-append, length-take, get_or-drop, get_or-take, get_or_past}
 use Rattle.std.proofs.lemmas.Nat.{be_bytes_2, be_bytes_4, be_bytes_8, from_be_bytes-to_be_bytes_2, from_be_bytes-to_be_bytes_4, from_be_bytes-to_be_bytes_8}
+use Rattle.pg_msg.specs.declared.limits.TheConstants.{MOST_QUEUES}
 use Rattle.pg_msg.specs.declared.message.MessageId.{MessageId}
 use Rattle.pg_msg.specs.Names.{IsBetween, IsName}
 use Rattle.pg_msg.specs.Lists.{ids_bytes, queues_bytes, AreQueues, rows_bytes, pages_bytes, IsPageRow, ArePages}
@@ -235,7 +236,7 @@ pub queues_takes : (bytes queues rest : List ℕ) → IsBytes bytes → queues_a
 unfolding queues_at
 queues_takes bytes queues rest fits e =
     let a = bind_some (number_at w16 bytes) _ (queues, rest) e in
-    let in_range = bind_some (guarded (is_between 1 1000 a.0.0) a.0) _ (queues, rest) a.2 in
+    let in_range = bind_some (guarded (is_between 1 MOST_QUEUES a.0.0) a.0) _ (queues, rest) a.2 in
     let few = cond_some _ _ _ in_range.1 in
     let same : in_range.0 ≡ a.0 = sym few.1 in
     let b = bind_some (ids_at in_range.0.0 in_range.0.1) _ (queues, rest) in_range.2 in
@@ -245,13 +246,13 @@ queues_takes bytes queues rest fits e =
     let ids = ids_takes a.0.0 a.0.1 b.0.0 b.0.1 count.0.rest_fits read in
     let both = Takes-then bytes (to_be_bytes w16 a.0.0) a.0.1 (ids_bytes b.0.0) b.0.1 count.0 ids.0 in
     let whole : Takes bytes (queues_bytes b.0.0) b.0.1 = subst (λ (n : ℕ). Takes bytes (to_be_bytes w16 n ++ ids_bytes b.0.0) b.0.1) (sym ids.1) both in
-    let between : IsBetween 1 1000 (length b.0.0) = rw ids.1 ((between_decides 1 1000 a.0.0).0 few.0) in
+    let between : IsBetween 1 MOST_QUEUES (length b.0.0) = rw ids.1 ((between_decides 1 MOST_QUEUES a.0.0).0 few.0) in
     subst (λ (x : List ℕ × List ℕ). Takes bytes (queues_bytes x.0) x.1 × AreQueues x.0) passed.1 (whole, record { count = between; each = ids.2; ascending = (ascends_decides b.0.0).0 passed.0 })
 
 pub queues_again : (queues rest : List ℕ) → AreQueues queues → queues_at (queues_bytes queues ++ rest) ≡ Some (queues, rest)
 unfolding queues_at
 queues_again queues rest are =
-    let between = (between_decides 1 1000 (length queues)).1 are.count in
+    let between = (between_decides 1 MOST_QUEUES (length queues)).1 are.count in
     ap queues_at (append_assoc (to_be_bytes w16 (length queues)) (ids_bytes queues) rest)
     ∙ rw (number_again w16 (2 ^ 16) wide16 (length queues) (ids_bytes queues ++ rest) (omega (arith, are.count.1)), between, ids_again queues rest are.each, (ascends_decides queues).1 are.ascending) refl
 
@@ -264,18 +265,18 @@ row_takes : (bytes : List ℕ) (row : ℕ × ℕ) (rest : List ℕ) → IsBytes 
 unfolding row_at
 row_takes bytes row rest fits e =
     let a = bind_some (number_at w32 bytes) _ (row, rest) e in
-    let b = bind_some (positive_at w64 a.0.1) _ (row, rest) a.2 in
+    let b = bind_some (number_at w64 a.0.1) _ (row, rest) a.2 in
     let address = number_takes w32 (2 ^ 32) wide32 bytes a.0.0 a.0.1 fits a.1 in
-    let page = positive_takes w64 (2 ^ 64) wide64 a.0.1 b.0.0 b.0.1 address.0.rest_fits b.1 in
+    let page = number_takes w64 (2 ^ 64) wide64 a.0.1 b.0.0 b.0.1 address.0.rest_fits b.1 in
     let made : (ℕ × ℕ) × List ℕ = ((a.0.0, b.0.0), b.0.1) in
     let both = Takes-then bytes (to_be_bytes w32 a.0.0) a.0.1 (to_be_bytes w64 b.0.0) b.0.1 address.0 page.0 in
-    subst (λ (x : (ℕ × ℕ) × List ℕ). Takes bytes (row_bytes x.0) x.1 × IsPageRow x.0) (some_is made (row, rest) b.2) (both, (address.1, page.1, page.2))
+    subst (λ (x : (ℕ × ℕ) × List ℕ). Takes bytes (row_bytes x.0) x.1 × IsPageRow x.0) (some_is made (row, rest) b.2) (both, (address.1, page.1))
 
 row_again : (row : ℕ × ℕ) (rest : List ℕ) → IsPageRow row → row_at (row_bytes row ++ rest) ≡ Some (row, rest)
 unfolding row_at
 row_again row rest is =
     ap row_at (append_assoc (to_be_bytes w32 row.0) (to_be_bytes w64 row.1) rest)
-    ∙ rw (number_again w32 (2 ^ 32) wide32 row.0 (to_be_bytes w64 row.1 ++ rest) is.0, positive_again w64 (2 ^ 64) wide64 row.1 rest is.1 is.2) refl
+    ∙ rw (number_again w32 (2 ^ 32) wide32 row.0 (to_be_bytes w64 row.1 ++ rest) is.0, number_again w64 (2 ^ 64) wide64 row.1 rest is.1) refl
 
 pub row_field : IsField row_at row_bytes IsPageRow
 row_field = record { takes = row_takes; again = row_again }

@@ -1,10 +1,11 @@
 -- Messages are read as they are spelled, and none is spelled as the front of another.
-use Rattle.std.proofs.Common.{◌≡◌, ◌≢◌, ℕ, zero, suc, ◌+◌, ◌-◌, ◌^◌, ◌<◌, ◌≤◌, true, cond, eqb, leb, List, [], ◌∷◌, ◌++◌, length, take, drop, Option, Some, None, inl, inr, refl, sym, ap, subst, ◌∙◌, append_assoc, arith}
+use Rattle.std.proofs.Common.{◌≡◌, ◌≢◌, ℕ, zero, suc, ◌+◌, ◌-◌, ◌^◌, ◌<◌, ◌≤◌, true, cond, eqb, leb, ltb, List, [], ◌∷◌, ◌++◌, length, take, drop, Option, Some, None, inl, inr, refl, sym, ap, subst, ◌∙◌, append_assoc, arith}
 use Rattle.std.specs.Prelude.{IfSome}
 use Rattle.std.specs.Int.{w8, w32, w64, to_be_bytes, from_be_bytes}
-use Rattle.std.proofs.lemmas.Bool.{leb-true, le-leb, eqb-true, ne_eqb}
+use Rattle.std.proofs.lemmas.Bool.{leb-true, le-leb, ltb-true, lt-ltb, eqb-true, ne_eqb}
 use Rattle.std.proofs.lemmas.List.{nil_from_length, take_at, take-append-drop, length-append}
 use Rattle.std.proofs.lemmas.Option.{cond_some}
+use Rattle.pg_msg.specs.declared.limits.TheConstants.{LONGEST_DUPLICATE_ID, WEIGHT_LIMIT}
 use Rattle.pg_msg.specs.declared.message.Body.{Body}
 use Rattle.pg_msg.specs.declared.message.Body.TheVariants.{Plain, Large}
 use Rattle.pg_msg.specs.declared.message.Message.{Message}
@@ -16,7 +17,7 @@ use Rattle.pg_msg.proofs.ValueLaws.{chosen, properties_takes, properties_again}
 -- ---- the duplicate id
 
 -- what a length and so many bytes spell
-dup_spelled : (count : ℕ) (id : List ℕ) → length id ≡ count → count ≤ 64 → (dup_bytes (cond (eqb count 0) None (Some id)) ≡ count ∷ id) × IfSome (cond (eqb count 0) None (Some id)) IsDuplicateId
+dup_spelled : (count : ℕ) (id : List ℕ) → length id ≡ count → count ≤ LONGEST_DUPLICATE_ID → (dup_bytes (cond (eqb count 0) None (Some id)) ≡ count ∷ id) × IfSome (cond (eqb count 0) None (Some id)) IsDuplicateId
 dup_spelled zero id len short = (ap (λ (bytes : List ℕ). 0 ∷ bytes) (sym (nil_from_length id len)), tt)
 dup_spelled (suc n) id len short =
     rw (ne_eqb (suc n) 0 (λ same. cc)) (ap (λ (count : ℕ). count ∷ id) len, (omega (arith, len), omega (arith, len)))
@@ -25,14 +26,14 @@ dup_takes : (bytes : List ℕ) (dup : Option (List ℕ)) (rest : List ℕ) → I
 unfolding dup_at
 dup_takes bytes dup rest fits e =
     let a = bind_some (number_at w8 bytes) _ (dup, rest) e in
-    let in_range = bind_some (guarded (leb a.0.0 64) a.0) _ (dup, rest) a.2 in
+    let in_range = bind_some (guarded (leb a.0.0 LONGEST_DUPLICATE_ID) a.0) _ (dup, rest) a.2 in
     let few = cond_some _ _ _ in_range.1 in
     let b = bind_some (octets_at in_range.0.0 in_range.0.1) _ (dup, rest) in_range.2 in
     let same : in_range.0 ≡ a.0 = sym few.1 in
     let read : octets_at a.0.0 a.0.1 ≡ Some (b.0.0, b.0.1) = subst (λ (x : ℕ × List ℕ). octets_at x.0 x.1 ≡ Some (b.0.0, b.0.1)) same b.1 in
     let count = byte_takes bytes a.0.0 a.0.1 fits a.1 in
     let id = octets_takes a.0.0 a.0.1 b.0.0 b.0.1 count.0.rest_fits read in
-    let spelled = dup_spelled a.0.0 b.0.0 id.1 (leb-true a.0.0 64 few.0) in
+    let spelled = dup_spelled a.0.0 b.0.0 id.1 (leb-true a.0.0 LONGEST_DUPLICATE_ID few.0) in
     let both = Takes-then bytes (a.0.0 ∷ []) a.0.1 b.0.0 b.0.1 count.0 id.0 in
     let made : Option (List ℕ) × List ℕ = (cond (eqb a.0.0 0) None (Some b.0.0), b.0.1) in
     let whole : Takes bytes (dup_bytes made.0) b.0.1 = subst (λ (front : List ℕ). Takes bytes front b.0.1) (sym spelled.0) both in
@@ -43,7 +44,7 @@ unfolding dup_at
 dup_again None rest is = rw (byte_again 0 rest, octets_again [] rest) refl
 dup_again (Some id) rest is =
     let some : length id ≢ 0 = omega (arith, is.0) in
-    rw (byte_again (length id) (id ++ rest), le-leb (length id) 64 is.1, octets_again id rest, ne_eqb (length id) 0 some) refl
+    rw (byte_again (length id) (id ++ rest), le-leb (length id) LONGEST_DUPLICATE_ID is.1, octets_again id rest, ne_eqb (length id) 0 some) refl
 
 -- ---- the body
 
@@ -134,8 +135,8 @@ message_takes bytes message rest fits e =
     let from_kind : Takes a.0.1 (behind_id made) f.0.1 = Takes-then a.0.1 (kind_of body ∷ []) b.0.1 (behind_kind made) f.0.1 kind_taken from_dup in
     let whole : Takes bytes (message_bytes made) f.0.1 = Takes-then bytes (id_bytes a.0.0) a.0.1 (behind_id made) f.0.1 id.0 from_kind in
     let lengths : length bytes ≡ weight_of made + length f.0.1 = ap length whole.parts ∙ length-append (message_bytes made) f.0.1 in
-    let heaviest : length bytes ≤ length f.0.1 + 102399 = leb-true _ _ passed.0 in
-    let light : weight_of made ≤ 102399 = omega (arith, lengths, heaviest) in
+    let heaviest : length bytes < length f.0.1 + WEIGHT_LIMIT = ltb-true _ _ passed.0 in
+    let light : weight_of made < WEIGHT_LIMIT = omega (arith, lengths, heaviest) in
     subst (λ (x : Message × List ℕ). Takes bytes (message_bytes x.0) x.1 × IsMessage x.0) passed.1 (whole, record { fields = record { id = id.1; dup = dup.1; properties = properties.1; body = part.in_range }; light = light })
 
 pub message_again : (message : Message) (rest : List ℕ) → IsMessage message → message_at (message_bytes message ++ rest) ≡ Some (message, rest)
@@ -150,8 +151,8 @@ message_again message rest is =
     let properties = properties_again message.properties from_body is.fields.properties in
     let part = part_again message.body rest is.fields.body in
     let lengths : length (message_bytes message ++ rest) ≡ weight_of message + length rest = length-append (message_bytes message) rest in
-    let heaviest : leb (length (message_bytes message ++ rest)) (length rest + 102399) ≡ true = le-leb _ _ (omega (arith, lengths, is.light)) in
-    let light : leb (length (id_bytes message.id ++ (kind_of message.body ∷ from_dup))) (length rest + 102399) ≡ true = subst (λ (bytes : List ℕ). leb (length bytes) (length rest + 102399) ≡ true) regrouped heaviest in
+    let heaviest : ltb (length (message_bytes message ++ rest)) (length rest + WEIGHT_LIMIT) ≡ true = lt-ltb _ _ (omega (arith, lengths, is.light)) in
+    let light : ltb (length (id_bytes message.id ++ (kind_of message.body ∷ from_dup))) (length rest + WEIGHT_LIMIT) ≡ true = subst (λ (bytes : List ℕ). ltb (length bytes) (length rest + WEIGHT_LIMIT) ≡ true) regrouped heaviest in
     ap message_at regrouped ∙ rw (id, byte_again (kind_of message.body) from_dup, dup, properties, part, light, part_tells message.body is.fields.body) refl
 
 -- ---- what is told by that

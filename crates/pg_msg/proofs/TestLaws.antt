@@ -10,6 +10,7 @@ use Rattle.std.proofs.lemmas.List.Elements.{All-weaker}
 use Rattle.std.proofs.lemmas.Map.Views.{Contains-from_any, list_any-from_Contains}
 use Rattle.std.proofs.lemmas.Str.{IsUtf8-from_ascii, is_utf8-from_IsUtf8}
 use Rattle.std.proofs.lemmas.Str.Ascii.{IsAscii-from_all}
+use Rattle.pg_msg.specs.declared.limits.TheConstants.{LONGEST_NAME}
 use Rattle.pg_msg.specs.Names.{IsBetween, IsNameStart, IsNameByte, IsName, IsPropertyNameStart, IsPropertyNameByte, IsPropertyName, IsReserved, reserved_words}
 use Rattle.pg_msg.specs.Lists.{IsBelowFirst, Ascends}
 use Rattle.pg_msg.specs.Messages.{IsNotAmong, AreDistinct}
@@ -35,7 +36,7 @@ pub name_decides : (name : List ℕ) → Decides (is_name name) (IsName name)
 name_decides name =
     let each : Decides (list_all is_name_byte name) (All IsNameByte name) = Decides-by_and is_name_byte IsNameByte (list_all is_name_byte) byte_decides refl (λ _ _. refl) name in
     let behind = Decides-and (is_name_start (slice_index name 0)) (list_all is_name_byte name) (start_decides (slice_index name 0)) each in
-    let whole = Decides-and (is_between 1 64 (length name)) (is_name_start (slice_index name 0) && list_all is_name_byte name) (between_decides 1 64 (length name)) behind in
+    let whole = Decides-and (is_between 1 LONGEST_NAME (length name)) (is_name_start (slice_index name 0) && list_all is_name_byte name) (between_decides 1 LONGEST_NAME (length name)) behind in
     Decides-like (is_name name) (λ parts. record { some = parts.0.0; short = parts.0.1; first = parts.1.0; each = parts.1.1 }) (λ is. ((is.some, is.short), (is.first, is.each))) whole
 
 name_byte_is_ascii : (byte : ℕ) → IsNameByte byte → byte < 128
@@ -65,7 +66,7 @@ property_name_decides name =
     let unreserved = Decides-not (is_reserved name) (reserved_decides name) in
     let bytes = Decides-and (list_all is_property_name_byte name) (not (is_reserved name)) each unreserved in
     let behind = Decides-and (is_property_name_start (slice_index name 0)) (list_all is_property_name_byte name && not (is_reserved name)) (property_start_decides (slice_index name 0)) bytes in
-    let whole = Decides-and (is_between 1 64 (length name)) (is_property_name_start (slice_index name 0) && (list_all is_property_name_byte name && not (is_reserved name))) (between_decides 1 64 (length name)) behind in
+    let whole = Decides-and (is_between 1 LONGEST_NAME (length name)) (is_property_name_start (slice_index name 0) && (list_all is_property_name_byte name && not (is_reserved name))) (between_decides 1 LONGEST_NAME (length name)) behind in
     Decides-like (is_property_name name) (λ parts. record { some = parts.0.0; short = parts.0.1; first = parts.1.0; each = parts.1.1.0; unreserved = parts.1.1.1 }) (λ is. ((is.some, is.short), (is.first, (is.each, is.unreserved)))) whole
 
 property_byte_is_ascii : (byte : ℕ) → IsPropertyNameByte byte → byte < 128

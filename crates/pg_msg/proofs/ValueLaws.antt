@@ -8,6 +8,7 @@ use Rattle.std.proofs.lemmas.Bool.{leb-true, le-leb, eqb-true}
 use Rattle.std.proofs.lemmas.Int.{of_z-to_z, to_z-of_z}
 use Rattle.std.proofs.lemmas.Option.{cond_some}
 use Rattle.std.proofs.lemmas.Str.{IsUtf8-from_is_utf8, is_utf8-from_IsUtf8}
+use Rattle.pg_msg.specs.declared.limits.TheConstants.{MOST_PROPERTIES}
 use Rattle.pg_msg.specs.declared.properties.Property.{Property}
 use Rattle.pg_msg.specs.declared.properties.Value.{Value}
 use Rattle.pg_msg.specs.declared.properties.Value.TheVariants.{Text, Whole, Truth}
@@ -157,7 +158,7 @@ pub properties_takes : (bytes : List ℕ) (properties : List Property) (rest : L
 unfolding properties_at
 properties_takes bytes properties rest fits e =
     let a = bind_some (number_at w8 bytes) _ (properties, rest) e in
-    let in_range = bind_some (guarded (leb a.0.0 100) a.0) _ (properties, rest) a.2 in
+    let in_range = bind_some (guarded (leb a.0.0 MOST_PROPERTIES) a.0) _ (properties, rest) a.2 in
     let few = cond_some _ _ _ in_range.1 in
     let b = bind_some (counted_at property_at in_range.0.0 in_range.0.1) _ (properties, rest) in_range.2 in
     let passed = cond_some _ _ _ b.2 in
@@ -167,11 +168,11 @@ properties_takes bytes properties rest fits e =
     let each = counted_takes property_at property_bytes IsProperty properties_bytes property_field property_chain a.0.0 a.0.1 b.0.0 b.0.1 count.0.rest_fits read in
     let both = Takes-then bytes (a.0.0 ∷ []) a.0.1 (properties_bytes b.0.0) b.0.1 count.0 each.0 in
     let whole : Takes bytes (length b.0.0 ∷ properties_bytes b.0.0) b.0.1 = subst (λ (n : ℕ). Takes bytes (n ∷ properties_bytes b.0.0) b.0.1) (sym each.1) both in
-    let short : length b.0.0 ≤ 100 = rw each.1 (leb-true a.0.0 100 few.0) in
+    let short : length b.0.0 ≤ MOST_PROPERTIES = rw each.1 (leb-true a.0.0 MOST_PROPERTIES few.0) in
     subst (λ (x : List Property × List ℕ). Takes bytes (length x.0 ∷ properties_bytes x.0) x.1 × AreProperties x.0) passed.1 (whole, record { count = short; each = each.2; distinct = (distinct_decides (map (λ property. property.name) b.0.0)).0 passed.0 })
 
 pub properties_again : (properties : List Property) (rest : List ℕ) → AreProperties properties → properties_at ((length properties ∷ properties_bytes properties) ++ rest) ≡ Some (properties, rest)
 unfolding properties_at
 properties_again properties rest are =
     let each = counted_again property_at property_bytes IsProperty properties_bytes property_field property_chain properties rest are.each in
-    rw (byte_again (length properties) (properties_bytes properties ++ rest), le-leb (length properties) 100 are.count, each, (distinct_decides (map (λ property. property.name) properties)).1 are.distinct) refl
+    rw (byte_again (length properties) (properties_bytes properties ++ rest), le-leb (length properties) MOST_PROPERTIES are.count, each, (distinct_decides (map (λ property. property.name) properties)).1 are.distinct) refl

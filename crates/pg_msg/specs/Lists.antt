@@ -1,6 +1,7 @@
 -- The lists of queues and of pages, and how they are spelled.
-use Rattle.std.specs.Prelude.{◌<◌, ◌≤◌, ◌^◌, ℕ, List, [], ◌∷◌, ◌++◌, length, map, All}
+use Rattle.std.specs.Prelude.{◌<◌, ◌^◌, ℕ, List, [], ◌∷◌, ◌++◌, length, map, All}
 use Rattle.std.specs.Int.{to_be_bytes, w16, w32, w64}
+use Rattle.pg_msg.specs.declared.limits.TheConstants.{MOST_QUEUES}
 use Rattle.pg_msg.specs.Names.{IsBetween}
 
 -- each id in 4 bytes, one behind the other
@@ -24,7 +25,7 @@ Ascends (id ∷ ids) = IsBelowFirst id ids × Ascends ids
 
 -- the queues that a message goes to
 pub record AreQueues (queues : List ℕ) : Type 0 where
-  pub count : IsBetween 1 1000 (length queues)
+  pub count : IsBetween 1 MOST_QUEUES (length queues)
   pub each : All (λ queue. queue < 2 ^ 32) queues
   pub ascending : Ascends queues
 
@@ -37,9 +38,9 @@ rows_bytes (row ∷ rows) = to_be_bytes w32 row.0 ++ (to_be_bytes w64 row.1 ++ r
 abbrev pub pages_bytes : List (ℕ × ℕ) → List ℕ
 pages_bytes rows = to_be_bytes w16 (length rows) ++ rows_bytes rows
 
--- pages are numbered from 1
+-- each number has its place; which pages there may be isn't asked here
 abbrev pub IsPageRow : ℕ × ℕ → Type 0
-IsPageRow row = (row.0 < 2 ^ 32) × (1 ≤ row.1) × (row.1 < 2 ^ 64)
+IsPageRow row = (row.0 < 2 ^ 32) × (row.1 < 2 ^ 64)
 
 -- the last pages of a transaction, by address
 pub record ArePages (rows : List (ℕ × ℕ)) : Type 0 where

@@ -1,6 +1,7 @@
 -- How a message is spelled, and what it weighs.
 use Rattle.std.specs.Prelude.{◌≡◌, ◌≢◌, ◌<◌, ◌≤◌, ◌^◌, ℕ, List, [], ◌∷◌, ◌++◌, length, map, All, Option, Some, None, IfSome, IsUtf8, FitsSigned, if◌then◌else◌}
 use Rattle.std.specs.Int.{to_be_bytes, cast_unsigned, w16, w32, w64}
+use Rattle.pg_msg.specs.declared.limits.TheConstants.{LONGEST_DUPLICATE_ID, MOST_PROPERTIES, WEIGHT_LIMIT}
 use Rattle.pg_msg.specs.declared.message.MessageId.{MessageId}
 use Rattle.pg_msg.specs.declared.message.Body.{Body}
 use Rattle.pg_msg.specs.declared.message.Body.TheVariants.{Plain, Large}
@@ -46,7 +47,9 @@ body_bytes (Large size) = to_be_bytes w64 size
 -- the id, the kind, the duplicate id, the properties behind their count, and the body
 abbrev pub message_bytes : Message → List ℕ
 message_bytes message =
-    id_bytes message.id ++ (kind_of message.body ∷ (dup_bytes message.dup ++ (length message.properties ∷ (properties_bytes message.properties ++ body_bytes message.body))))
+    id_bytes message.id ++ (kind_of message.body ∷
+    (dup_bytes message.dup ++ (length message.properties ∷
+    (properties_bytes message.properties ++ body_bytes message.body))))
 
 -- how many bytes it takes
 abbrev pub weight_of : Message → ℕ
@@ -59,9 +62,9 @@ pub record IsMessageId (id : MessageId) : Type 0 where
   pub number : 1 ≤ id.number
   pub number_fits : id.number < 2 ^ 32
 
--- a duplicate id has from 1 to 64 bytes
+-- a duplicate id has some bytes, and not too many
 abbrev pub IsDuplicateId : List ℕ → Type 0
-IsDuplicateId id = IsBetween 1 64 (length id)
+IsDuplicateId id = IsBetween 1 LONGEST_DUPLICATE_ID (length id)
 
 -- a text is UTF-8 of at most 65,535 bytes, and a number has 64 bits
 abbrev pub IsValue : Value → Type 0
@@ -81,9 +84,9 @@ abbrev pub AreDistinct : List (List ℕ) → Type 0
 AreDistinct [] = Unit {0}
 AreDistinct (name ∷ names) = IsNotAmong name names × AreDistinct names
 
--- at most 100 properties, whose names differ
+-- not too many properties, whose names differ
 pub record AreProperties (properties : List Property) : Type 0 where
-  pub count : length properties ≤ 100
+  pub count : length properties ≤ MOST_PROPERTIES
   pub each : All IsProperty properties
   pub distinct : AreDistinct (map (λ property. property.name) properties)
 
@@ -102,7 +105,7 @@ pub record HasFields (message : Message) : Type 0 where
 -- and it isn't too heavy
 pub record IsMessage (message : Message) : Type 0 where
   pub fields : HasFields message
-  pub light : weight_of message ≤ 102399
+  pub light : weight_of message < WEIGHT_LIMIT
 
 -- the bytes spell the message
 pub record SpellsMessage (bytes : List ℕ) (message : Message) : Type 0 where

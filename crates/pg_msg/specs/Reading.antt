@@ -5,6 +5,7 @@ use Rattle.std.specs.List.{list_all, list_any}
 use Rattle.std.specs.Str.{is_utf8, bytes_eq, str_to_ascii_lowercase}
 use Rattle.pg_msg.specs.declared.fields.Unread.{Unread}
 use Rattle.pg_msg.specs.declared.fields.Unread.TheVariants as unread
+use Rattle.pg_msg.specs.declared.limits.TheConstants.{LONGEST_DUPLICATE_ID, LONGEST_NAME, MOST_PROPERTIES, MOST_QUEUES, WEIGHT_LIMIT}
 use Rattle.pg_msg.specs.declared.message.MessageId.{MessageId}
 use Rattle.pg_msg.specs.declared.message.Body.{Body}
 use Rattle.pg_msg.specs.declared.message.Body.TheVariants.{Plain, Large}
@@ -46,7 +47,8 @@ counted_at value_at (suc count) bytes = do
 
 -- a number of this width
 abbrev pub number_at : Width → List ℕ → Read ℕ
-number_at w bytes = guarded (nat_le (byte_len w) (length bytes)) (from_be_bytes w (take (byte_len w) bytes), drop (byte_len w) bytes)
+number_at w bytes =
+    guarded (nat_le (byte_len w) (length bytes)) (from_be_bytes w (take (byte_len w) bytes), drop (byte_len w) bytes)
 
 -- so many bytes
 abbrev pub octets_at : ℕ → List ℕ → Read (List ℕ)
@@ -74,7 +76,8 @@ abbrev pub is_name_byte : ℕ → Bool
 is_name_byte byte = is_name_start byte || (is_between 48 57 byte || ((byte == 46) || (byte == 45)))
 
 abbrev pub is_name : List ℕ → Bool
-is_name name = is_between 1 64 (length name) && (is_name_start (slice_index name 0) && list_all is_name_byte name)
+is_name name =
+    is_between 1 LONGEST_NAME (length name) && (is_name_start (slice_index name 0) && list_all is_name_byte name)
 
 abbrev pub is_property_name_start : ℕ → Bool
 is_property_name_start byte = is_name_start byte || (byte == 36)
@@ -86,7 +89,9 @@ abbrev pub is_reserved : List ℕ → Bool
 is_reserved name = list_any (bytes_eq (str_to_ascii_lowercase name)) reserved_words
 
 unfoldable pub is_property_name : List ℕ → Bool
-is_property_name name = is_between 1 64 (length name) && (is_property_name_start (slice_index name 0) && (list_all is_property_name_byte name && not (is_reserved name)))
+is_property_name name =
+    is_between 1 LONGEST_NAME (length name) &&
+    (is_property_name_start (slice_index name 0) && (list_all is_property_name_byte name && not (is_reserved name)))
 
 -- a length byte and so many bytes, which are a name
 unfoldable pub name_at : List ℕ → Read (List ℕ)
@@ -111,7 +116,7 @@ ascends (id ∷ ids) = is_below_first id ids && ascends ids
 unfoldable pub queues_at : List ℕ → Read (List ℕ)
 queues_at bytes = do
   count ← number_at w16 bytes
-  in_range ← guarded (is_between 1 1000 count.0) count
+  in_range ← guarded (is_between 1 MOST_QUEUES count.0) count
   ids ← ids_at in_range.0 in_range.1
   guarded (ascends ids.0) ids
 
@@ -119,7 +124,7 @@ queues_at bytes = do
 unfoldable pub row_at : List ℕ → Read (ℕ × ℕ)
 row_at bytes = do
   address ← number_at w32 bytes
-  page ← positive_at w64 address.1
+  page ← number_at w64 address.1
   Some ((address.0, page.0), page.1)
 
 abbrev pub rows_at : ℕ → List ℕ → Read (List (ℕ × ℕ))
@@ -135,7 +140,7 @@ pages_at bytes = do
 unfoldable pub dup_at : List ℕ → Read (Option (List ℕ))
 dup_at bytes = do
   count ← number_at w8 bytes
-  in_range ← guarded (nat_le count.0 64) count
+  in_range ← guarded (nat_le count.0 LONGEST_DUPLICATE_ID) count
   id ← octets_at in_range.0 in_range.1
   Some (if count.0 == 0 then None else Some id.0, id.1)
 
@@ -157,7 +162,9 @@ truth_at bytes = do
 
 -- what stands behind a value's kind
 abbrev pub value_of : ℕ → List ℕ → Read Value
-value_of kind bytes = if kind == 1 then text_at bytes else (if kind == 2 then whole_at bytes else (if kind == 3 then truth_at bytes else None))
+value_of kind bytes =
+    if kind == 1 then text_at bytes else (if kind == 2 then whole_at bytes else
+    (if kind == 3 then truth_at bytes else None))
 
 unfoldable pub value_at : List ℕ → Read Value
 value_at bytes = do
@@ -186,7 +193,7 @@ are_distinct (name ∷ names) = not (list_any (bytes_eq name) names) && are_dist
 unfoldable pub properties_at : List ℕ → Read (List Property)
 properties_at bytes = do
   count ← number_at w8 bytes
-  in_range ← guarded (nat_le count.0 100) count
+  in_range ← guarded (nat_le count.0 MOST_PROPERTIES) count
   properties ← counted_at property_at in_range.0 in_range.1
   guarded (are_distinct (map (λ property. property.name) properties.0)) properties
 
@@ -211,4 +218,13 @@ message_at bytes = do
   dup ← dup_at kind.1
   properties ← properties_at dup.1
   part ← part_at kind.0 properties.1
-  guarded (nat_le (length bytes) (length part.1 + 102399)) (record { id = id.0; dup = dup.0; properties = properties.0; body = body_of kind.0 part.0 }, part.1)
+  guarded (nat_lt (length bytes) (length part.1 + WEIGHT_LIMIT)) (
+    record {
+      id =
+          id.0;
+      dup = dup.0;
+      properties = properties.0;
+      body = body_of kind.0 part.0;
+    },
+    part.1,
+  )

@@ -10,7 +10,18 @@ IsBuiltRefusal refusals.Line = Unit {0}
 IsBuiltRefusal refusals.Name = Unit {0}
 IsBuiltRefusal refusals.Address = Unit {0}
 IsBuiltRefusal refusals.Queue = Unit {0}
-IsBuiltRefusal _ = ⊥
+IsBuiltRefusal refusals.Room = ⊥
+IsBuiltRefusal (refusals.Filter at) = ⊥
+IsBuiltRefusal refusals.ConsumerOpen = ⊥
+IsBuiltRefusal refusals.Tx = ⊥
+IsBuiltRefusal refusals.TxFailed = ⊥
+IsBuiltRefusal refusals.Size = ⊥
+IsBuiltRefusal refusals.Duplicate = ⊥
+IsBuiltRefusal refusals.Ids = ⊥
+IsBuiltRefusal refusals.Consumer = ⊥
+IsBuiltRefusal refusals.Delivery = ⊥
+IsBuiltRefusal refusals.Large = ⊥
+IsBuiltRefusal refusals.Range = ⊥
 
 -- the replies that they give
 abbrev pub IsBuilt : Reply → Type 0
@@ -19,4 +30,10 @@ IsBuilt (replies.Sent id) = Unit {0}
 IsBuilt replies.Unrouted = Unit {0}
 IsBuilt (replies.Count count) = Unit {0}
 IsBuilt (replies.No refusal) = IsBuiltRefusal refusal
-IsBuilt _ = ⊥
+IsBuilt (replies.Given message) = ⊥
+IsBuilt replies.Empty = ⊥
+IsBuilt (replies.Bytes octets) = ⊥
+IsBuilt (replies.Removed page) = ⊥
+IsBuilt (replies.First page) = ⊥
+IsBuilt replies.Nothing = ⊥
+IsBuilt (replies.Stat paging resident loaded pages first) = ⊥

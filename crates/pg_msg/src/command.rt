@@ -5,10 +5,10 @@ use crate::properties::Properties;
 use pg_bytes::{Octets, Text};
 
 /// A command of a script. `docs/FORMATS.md` gives the lines of those that are built.
-#[derive(Debug, PartialEq, Eq, Drop)]
+#[derive(PartialEq, Eq, Drop)]
 pub enum Command {
-    /// Makes an address. `max` and `ahead` are bytes of messages, `page` is bytes of a page file, and `dup` is a count of
-    /// duplicate ids.
+    /// Makes an address. `max` and `ahead` are bytes of messages, `page` is bytes of a page file, and `dup` is a count
+    /// of duplicate ids.
     Address {
         name: Text,
         max: u64,

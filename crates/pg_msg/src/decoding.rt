@@ -9,7 +9,8 @@ use std::alloc::{AllocError, Global};
 
 /// No message is spelled as the front of another. So what was encoded is decoded as it was, whatever stands behind it.
 pub fn prefix_free()
-    ensures { (m n : Message) (x y : List ℕ) → IsMessage m → IsMessage n → message_bytes m ++ x ≡ message_bytes n ++ y → (m ≡ n) × (x ≡ y) }
+    ensures { (m n : Message) (x y : List ℕ) → IsMessage m → IsMessage n → message_bytes m ++ x ≡ message_bytes n ++ y
+        → (m ≡ n) × (x ≡ y) }
 {}
 
 /// The message that a prefix of the bytes spells, with the prefix's length in bytes. None where no prefix spells one.
@@ -19,7 +20,8 @@ pub fn decode(alloc: Global, bytes: &[u8]) -> Result<Option<(Message, usize)>, A
         ((n : ℕ) (m : Message) → ¬ SpellsMessage (take n bytes.now) m)
         (λ read. (read.1 ≤ length bytes.now) × SpellsMessage (take read.1 bytes.now) read.0)) }
     // What is spelled is read, whatever stands behind it.
-    ensures only { (m : Message) (rest : List ℕ) → IsMessage m → bytes.now ≡ message_bytes m ++ rest → IfOk result (λ found. found ≡ Some (m, length (message_bytes m))) }
+    ensures only { (m : Message) (rest : List ℕ) → IsMessage m → bytes.now ≡ message_bytes m ++ rest
+        → IfOk result (λ found. found ≡ Some (m, length (message_bytes m))) }
 {
     match read_message(alloc, bytes) {
         Ok((message, rest)) => Ok(Some((message, bytes.len() - rest.len()))),

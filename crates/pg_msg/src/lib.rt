@@ -16,7 +16,11 @@ mod weighing;
 pub use command::Command;
 pub use decoding::{decode, prefix_free};
 pub use encoding::encode;
-pub use limits::{LIMITS, Limits};
+pub use limits::{
+    FILE_LIMIT, GREATEST_AHEAD, GREATEST_DUP, GREATEST_MAX, GREATEST_PAGE, LIMITS, LONGEST_BODY,
+    LONGEST_DUPLICATE_ID, LONGEST_NAME, Limits, MOST_ADDRESSES, MOST_PROPERTIES, MOST_QUEUES,
+    QUEUE_ID_LIMIT, WEIGHT_LIMIT,
+};
 pub use message::{Body, Message, MessageId};
 pub use pages::Pages;
 pub use properties::{Properties, Property, Value};

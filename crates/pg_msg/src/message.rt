@@ -6,7 +6,7 @@ use pg_bytes::Octets;
 use std::alloc::{AllocError, Global};
 
 /// What tells a message from every other of the broker.
-#[derive(Clone, Copy, Debug, PartialEq, Eq)]
+#[derive(Clone, Copy, PartialEq, Eq)]
 pub struct MessageId {
     /// The epoch in which the message was sent, from 1.
     pub epoch: u32,
@@ -15,7 +15,7 @@ pub struct MessageId {
 }
 
 /// What a message carries. The broker never looks into it.
-#[derive(Debug, PartialEq, Eq, Drop)]
+#[derive(PartialEq, Eq, Drop)]
 pub enum Body {
     /// The bytes themselves.
     Plain(Octets),
@@ -35,7 +35,7 @@ impl Body {
 }
 
 /// A message as it is kept. `docs/FORMATS.md` gives its bytes.
-#[derive(Debug, PartialEq, Eq)]
+#[derive(PartialEq, Eq)]
 pub struct Message {
     pub id: MessageId,
     /// The duplicate id that the sender gave it, of 1 to 64 bytes.

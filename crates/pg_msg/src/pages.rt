@@ -5,7 +5,6 @@ use std::alloc::{AllocError, Global};
 use std::marker::Model;
 
 /// For each of some addresses, its id and the last of its pages that has a message of a transaction.
-#[derive(Debug)]
 pub struct Pages {
     rows: Vec<(u32, u64)>,
 }
@@ -58,7 +57,8 @@ impl PartialEq for Pages {
 
     ghost eq = { pointwise (λ (a b : ℕ × ℕ). nat_eq a.0 b.0 && nat_eq a.1 b.1) };
 
-    ghost laws = { lists_per (partial_equiv_from_equiv (and_equiv (on_equiv (λ (row : ℕ × ℕ). row.0) nat_eq_equiv) (on_equiv (λ (row : ℕ × ℕ). row.1) nat_eq_equiv))) };
+    ghost laws = { lists_per (partial_equiv_from_equiv (and_equiv (on_equiv (λ (row : ℕ
+        × ℕ). row.0) nat_eq_equiv) (on_equiv (λ (row : ℕ × ℕ). row.1) nat_eq_equiv))) };
 
     fn eq(&self, other: &Pages) -> bool {
         self.as_slice() == other.as_slice()
@@ -70,5 +70,6 @@ impl Eq for Pages {
     ghost use Rattle.std.specs.Cmp.{nat_eq_equiv, on_equiv, and_equiv};
     ghost use Rattle.std.specs.Cmp.Lexicographic.{lists_equiv};
 
-    ghost laws = { lists_equiv (and_equiv (on_equiv (λ (row : ℕ × ℕ). row.0) nat_eq_equiv) (on_equiv (λ (row : ℕ × ℕ). row.1) nat_eq_equiv)) };
+    ghost laws = { lists_equiv (and_equiv (on_equiv (λ (row : ℕ × ℕ). row.0) nat_eq_equiv) (on_equiv (λ (row : ℕ
+        × ℕ). row.1) nat_eq_equiv)) };
 }

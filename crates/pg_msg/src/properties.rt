@@ -6,7 +6,7 @@ use std::alloc::{AllocError, Global};
 use std::marker::Model;
 
 /// The value of a property.
-#[derive(Debug, PartialEq, Eq, Drop)]
+#[derive(PartialEq, Eq, Drop)]
 pub enum Value {
     /// A text of at most 65,535 bytes.
     Text(Text),
@@ -15,7 +15,7 @@ pub enum Value {
 }
 
 /// A property of a message, which filters look at.
-#[derive(Debug, PartialEq, Eq)]
+#[derive(PartialEq, Eq)]
 pub struct Property {
     /// Of 1 to 64 bytes. `docs/FORMATS.md` says how it is spelled.
     pub name: Text,
@@ -55,7 +55,6 @@ impl Property {
 }
 
 /// Properties, in an order.
-#[derive(Debug)]
 pub struct Properties {
     items: Vec<Property>,
 }

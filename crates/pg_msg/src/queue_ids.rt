@@ -1,4 +1,4 @@
-// The numbers of queues.
+// The ids of queues.
 ghost use Rattle.std.specs.Prelude.{◌≡◌, ◌<◌, ◌^◌, ◌↔◌, ◌∷◌, ◌++◌, [], All, IsTrue, OnOk, OnErr, nat_eq};
 ghost use Rattle.std.specs.Cmp.{partial_equiv_from_equiv};
 ghost use Rattle.std.specs.Cmp.Lexicographic.{pointwise, nat_list_eq_equiv};
@@ -7,9 +7,8 @@ use std::alloc::{AllocError, Global};
 use std::marker::Model;
 
 /// The ids of queues, in an order.
-#[derive(Debug)]
 pub struct QueueIds {
-    numbers: Vec<u32>,
+    ids: Vec<u32>,
 }
 
 impl Model for QueueIds {
@@ -17,12 +16,12 @@ impl Model for QueueIds {
 
     ghost Value = { List ℕ };
 
-    ghost view = { λ ids. ids.numbers.items };
+    ghost view = { λ queues. queues.ids.items };
 }
 
 impl Drop for QueueIds {
     fn drop(self) {
-        let QueueIds { numbers: _numbers } = self;
+        let QueueIds { ids: _ids } = self;
     }
 }
 
@@ -32,33 +31,33 @@ impl QueueIds {
         ensures { result ≡ [] }
     {
         QueueIds {
-            numbers: Vec::new(alloc),
+            ids: Vec::new(alloc),
         }
     }
 
-    /// The numbers of the vector, which is taken over as it is.
-    pub fn from_vec(numbers: Vec<u32>) -> QueueIds
-        ensures { result ≡ numbers.items }
+    /// The ids of the vector, which is taken over as it is.
+    pub fn from_vec(ids: Vec<u32>) -> QueueIds
+        ensures { result ≡ ids.items }
     {
-        QueueIds { numbers }
+        QueueIds { ids }
     }
 
-    /// The vector that holds the numbers, with no copy.
+    /// The vector that holds the ids, with no copy.
     pub fn into_vec(self) -> Vec<u32>
         ensures { result.items ≡ self }
     {
-        let QueueIds { numbers } = self;
-        numbers
+        let QueueIds { ids } = self;
+        ids
     }
 
-    /// The numbers as a slice.
+    /// The ids as a slice.
     pub fn as_slice(&self) -> &[u32]
         ensures value { result.now ≡ self.now }
         ensures in_range { All (λ queue. queue < 2 ^ 32) self.now }
     {
-        // Named, so that the proof knows the range of its numbers.
-        let numbers = self.numbers.as_slice();
-        numbers
+        // Named, so that the proof knows the range of the ids.
+        let ids = self.ids.as_slice();
+        ids
     }
 
     /// Appends the id. Fails only where there is no memory for it.
@@ -66,7 +65,7 @@ impl QueueIds {
         ensures ok { OnOk result (self.new ≡ self.old ++ queue ∷ []) }
         ensures err { OnErr result (self.new ≡ self.old) }
     {
-        self.numbers.push(queue)?;
+        self.ids.push(queue)?;
         Ok(())
     }
 }

@@ -4,7 +4,7 @@ use crate::message::{Message, MessageId};
 use pg_bytes::Octets;
 
 /// Why a command was refused.
-#[derive(Clone, Copy, Debug, PartialEq, Eq)]
+#[derive(Clone, Copy, PartialEq, Eq)]
 pub enum Refusal {
     /// The line is none that is understood.
     Line,
@@ -41,7 +41,7 @@ pub enum Refusal {
 }
 
 /// The answer to a line. `docs/FORMATS.md` gives its text.
-#[derive(Debug, PartialEq, Eq, Drop)]
+#[derive(PartialEq, Eq, Drop)]
 pub enum Reply {
     Done,
     /// The message has this id, and went to a queue.

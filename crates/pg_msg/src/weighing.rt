@@ -2,6 +2,7 @@
 ghost use Rattle.std.specs.Prelude.{◌≡◌, ◌+◌, ◌*◌, ◌<◌, ◌≤◌, ◌^◌, length, All, IfSome};
 ghost use Rattle.pg_msg.specs.Messages.{HasFields, IsBody, IsDuplicateId, IsProperty, IsValue, body_bytes, dup_bytes, property_bytes, properties_bytes, value_bytes, weight_of};
 
+use crate::limits::{LONGEST_DUPLICATE_ID, MOST_PROPERTIES};
 use crate::message::{Body, Message};
 use crate::properties::{Property, Value};
 use pg_bytes::Octets;
@@ -22,7 +23,7 @@ pub fn weight(message: &Message) -> u64
 fn dup_weight(dup: &Option<Octets>) -> u64
     requires { IfSome dup.now IsDuplicateId }
     ensures sum { result ≡ length (dup_bytes dup.now) }
-    ensures most { result ≤ 65 }
+    ensures most { result ≤ LONGEST_DUPLICATE_ID + 1 }
 {
     match dup {
         None => 1,
@@ -31,10 +32,10 @@ fn dup_weight(dup: &Option<Octets>) -> u64
 }
 
 fn properties_weight(properties: &[Property]) -> u64
-    requires few { length properties.now ≤ 100 }
+    requires few { length properties.now ≤ MOST_PROPERTIES }
     requires each { All IsProperty properties.now }
     ensures sum { result ≡ length (properties_bytes properties.now) }
-    ensures most { result ≤ 65603 * 100 }
+    ensures most { result ≤ 65603 * MOST_PROPERTIES }
 {
     let mut sum = 0;
     for property in properties {

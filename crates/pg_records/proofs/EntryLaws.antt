@@ -8,12 +8,12 @@ use Rattle.pg_msg.specs.declared.message.Message.{Message}
 use Rattle.pg_msg.specs.declared.message.MessageId.{MessageId}
 use Rattle.pg_msg.specs.Lists.{queues_bytes, pages_bytes}
 use Rattle.pg_msg.specs.Messages.{id_bytes, message_bytes}
-use Rattle.pg_msg.specs.Reading.{Read, number_at, positive_at, id_at, name_at, queues_at, pages_at, message_at}
-use Rattle.pg_msg.proofs.FieldLaws.{IsBytes, Takes, Takes-then, bind_some, some_is, wide32, wide64, number_takes, number_again, byte_takes, byte_again, positive_takes, positive_again, id_takes, id_again, name_takes, name_again, queues_takes, queues_again, pages_takes, pages_again}
+use Rattle.pg_msg.specs.Reading.{Read, number_at, id_at, name_at, queues_at, pages_at, message_at}
+use Rattle.pg_msg.proofs.FieldLaws.{IsBytes, Takes, Takes-then, bind_some, some_is, wide32, wide64, number_takes, number_again, byte_takes, byte_again, id_takes, id_again, name_takes, name_again, queues_takes, queues_again, pages_takes, pages_again}
 use Rattle.pg_msg.proofs.MessageLaws.{message_takes, message_again}
 use Rattle.pg_records.specs.declared.entry.Entry.{Entry}
 use Rattle.pg_records.specs.declared.entry.Entry.TheVariants.{Epoch, Address, Queue, DropQueue, Add, Ack, AckAt, PageDone, PageTx, Dup, LargeAdd, LargeAck, FirstPage, NextQueue, AckRun}
-use Rattle.pg_records.specs.Entries.{short_bytes, filter_bytes, entry_bytes, IsPage, HasFields}
+use Rattle.pg_records.specs.Entries.{short_bytes, filter_bytes, entry_bytes, HasFields}
 use Rattle.pg_records.specs.Reading.{filter_at, duplicate_id_at, epoch_at, address_at, queue_at, drop_queue_at, add_at, ack_at, place_at, page_done_at, page_tx_at, dup_at, large_add_at, large_ack_at, first_page_at, next_queue_at, ack_run_at, fields_at, entry_at}
 use Rattle.pg_records.proofs.FieldLaws.{filter_takes, filter_again, duplicate_id_takes, duplicate_id_again}
 
@@ -39,9 +39,6 @@ number32 bytes n rest fits e = number_takes w32 (2 ^ 32) wide32 bytes n rest fit
 
 number64 : (bytes : List ℕ) (n : ℕ) (rest : List ℕ) → IsBytes bytes → number_at w64 bytes ≡ Some (n, rest) → Takes bytes (to_be_bytes w64 n) rest × (n < 2 ^ 64)
 number64 bytes n rest fits e = number_takes w64 (2 ^ 64) wide64 bytes n rest fits e
-
-page_takes : (bytes : List ℕ) (n : ℕ) (rest : List ℕ) → IsBytes bytes → positive_at w64 bytes ≡ Some (n, rest) → Takes bytes (to_be_bytes w64 n) rest × (1 ≤ n) × (n < 2 ^ 64)
-page_takes bytes n rest fits e = positive_takes w64 (2 ^ 64) wide64 bytes n rest fits e
 
 epoch_takes : (bytes : List ℕ) (x : Entry × List ℕ) → IsBytes bytes → epoch_at bytes ≡ Some x → Stands 1 bytes x
 unfolding epoch_at
@@ -125,25 +122,25 @@ place_takes : (bytes : List ℕ) (x : Entry × List ℕ) → IsBytes bytes → p
 unfolding place_at
 place_takes bytes x fits e =
     let a = bind_some (number_at w32 bytes) _ x e in
-    let b = bind_some (positive_at w64 a.0.1) _ x a.2 in
+    let b = bind_some (number_at w64 a.0.1) _ x a.2 in
     let d = bind_some (number_at w32 b.0.1) _ x b.2 in
     let queue = number32 bytes a.0.0 a.0.1 fits a.1 in
-    let page = page_takes a.0.1 b.0.0 b.0.1 queue.0.rest_fits b.1 in
+    let page = number64 a.0.1 b.0.0 b.0.1 queue.0.rest_fits b.1 in
     let index = number32 b.0.1 d.0.0 d.0.1 page.0.rest_fits d.1 in
     let made : Entry × List ℕ = (AckAt a.0.0 b.0.0 d.0.0, d.0.1) in
     let all = three_behind 7 bytes (to_be_bytes w32 a.0.0) a.0.1 (to_be_bytes w64 b.0.0) b.0.1 (to_be_bytes w32 d.0.0) d.0.1 queue.0 page.0 index.0 in
-    subst (Stands 7 bytes) {x = made} (some_is made x d.2) (all, (queue.1, (page.1, page.2), index.1))
+    subst (Stands 7 bytes) {x = made} (some_is made x d.2) (all, (queue.1, page.1, index.1))
 
 page_done_takes : (bytes : List ℕ) (x : Entry × List ℕ) → IsBytes bytes → page_done_at bytes ≡ Some x → Stands 8 bytes x
 unfolding page_done_at
 page_done_takes bytes x fits e =
     let a = bind_some (number_at w32 bytes) _ x e in
-    let b = bind_some (positive_at w64 a.0.1) _ x a.2 in
+    let b = bind_some (number_at w64 a.0.1) _ x a.2 in
     let queue = number32 bytes a.0.0 a.0.1 fits a.1 in
-    let page = page_takes a.0.1 b.0.0 b.0.1 queue.0.rest_fits b.1 in
+    let page = number64 a.0.1 b.0.0 b.0.1 queue.0.rest_fits b.1 in
     let made : Entry × List ℕ = (PageDone a.0.0 b.0.0, b.0.1) in
     let all = two_behind 8 bytes (to_be_bytes w32 a.0.0) a.0.1 (to_be_bytes w64 b.0.0) b.0.1 queue.0 page.0 in
-    subst (Stands 8 bytes) {x = made} (some_is made x b.2) (all, (queue.1, (page.1, page.2)))
+    subst (Stands 8 bytes) {x = made} (some_is made x b.2) (all, (queue.1, page.1))
 
 page_tx_takes : (bytes : List ℕ) (x : Entry × List ℕ) → IsBytes bytes → page_tx_at bytes ≡ Some x → Stands 9 bytes x
 unfolding page_tx_at
@@ -195,12 +192,12 @@ first_page_takes : (bytes : List ℕ) (x : Entry × List ℕ) → IsBytes bytes 
 unfolding first_page_at
 first_page_takes bytes x fits e =
     let a = bind_some (number_at w32 bytes) _ x e in
-    let b = bind_some (positive_at w64 a.0.1) _ x a.2 in
+    let b = bind_some (number_at w64 a.0.1) _ x a.2 in
     let address = number32 bytes a.0.0 a.0.1 fits a.1 in
-    let page = page_takes a.0.1 b.0.0 b.0.1 address.0.rest_fits b.1 in
+    let page = number64 a.0.1 b.0.0 b.0.1 address.0.rest_fits b.1 in
     let made : Entry × List ℕ = (FirstPage a.0.0 b.0.0, b.0.1) in
     let all = two_behind 13 bytes (to_be_bytes w32 a.0.0) a.0.1 (to_be_bytes w64 b.0.0) b.0.1 address.0 page.0 in
-    subst (Stands 13 bytes) {x = made} (some_is made x b.2) (all, (address.1, (page.1, page.2)))
+    subst (Stands 13 bytes) {x = made} (some_is made x b.2) (all, (address.1, page.1))
 
 next_queue_takes : (bytes : List ℕ) (x : Entry × List ℕ) → IsBytes bytes → next_queue_at bytes ≡ Some x → Stands 14 bytes x
 unfolding next_queue_at
@@ -214,17 +211,17 @@ ack_run_takes : (bytes : List ℕ) (x : Entry × List ℕ) → IsBytes bytes →
 unfolding ack_run_at
 ack_run_takes bytes x fits e =
     let a = bind_some (number_at w32 bytes) _ x e in
-    let b = bind_some (positive_at w64 a.0.1) _ x a.2 in
+    let b = bind_some (number_at w64 a.0.1) _ x a.2 in
     let d = bind_some (number_at w32 b.0.1) _ x b.2 in
     let f = bind_some (number_at w32 d.0.1) _ x d.2 in
     let queue = number32 bytes a.0.0 a.0.1 fits a.1 in
-    let page = page_takes a.0.1 b.0.0 b.0.1 queue.0.rest_fits b.1 in
+    let page = number64 a.0.1 b.0.0 b.0.1 queue.0.rest_fits b.1 in
     let first = number32 b.0.1 d.0.0 d.0.1 page.0.rest_fits d.1 in
     let last = number32 d.0.1 f.0.0 f.0.1 first.0.rest_fits f.1 in
     let passed = cond_some _ _ _ f.2 in
     let two = Takes-then b.0.1 (to_be_bytes w32 d.0.0) d.0.1 (to_be_bytes w32 f.0.0) f.0.1 first.0 last.0 in
     let all = three_behind 15 bytes (to_be_bytes w32 a.0.0) a.0.1 (to_be_bytes w64 b.0.0) b.0.1 (to_be_bytes w32 d.0.0 ++ to_be_bytes w32 f.0.0) f.0.1 queue.0 page.0 two in
-    subst (Stands 15 bytes) passed.1 (all, (queue.1, (page.1, page.2), leb-true d.0.0 f.0.0 passed.0, last.1))
+    subst (Stands 15 bytes) passed.1 (all, (queue.1, page.1, leb-true d.0.0 f.0.0 passed.0, last.1))
 
 -- ---- what is spelled
 
@@ -233,9 +230,6 @@ again32 n rest lt = number_again w32 (2 ^ 32) wide32 n rest lt
 
 again64 : (n : ℕ) (rest : List ℕ) → n < 2 ^ 64 → number_at w64 (to_be_bytes w64 n ++ rest) ≡ Some (n, rest)
 again64 n rest lt = number_again w64 (2 ^ 64) wide64 n rest lt
-
-page_again : (n : ℕ) (rest : List ℕ) → IsPage n → positive_at w64 (to_be_bytes w64 n ++ rest) ≡ Some (n, rest)
-page_again n rest is = positive_again w64 (2 ^ 64) wide64 n rest is.0 is.1
 
 -- so many fields, and what stands behind them
 regroup_three : (a b c rest : List ℕ) → (a ++ (b ++ c)) ++ rest ≡ a ++ (b ++ (c ++ rest))
@@ -294,12 +288,12 @@ unfolding place_at
 place_again queue page index rest fields =
     let two : List ℕ = to_be_bytes w32 index ++ rest in
     ap place_at (regroup_three (to_be_bytes w32 queue) (to_be_bytes w64 page) (to_be_bytes w32 index) rest)
-    ∙ rw (again32 queue (to_be_bytes w64 page ++ two) fields.0, page_again page two fields.1, again32 index rest fields.2) refl
+    ∙ rw (again32 queue (to_be_bytes w64 page ++ two) fields.0, again64 page two fields.1, again32 index rest fields.2) refl
 
 page_done_again : (queue page : ℕ) (rest : List ℕ) → HasFields (PageDone queue page) → page_done_at ((to_be_bytes w32 queue ++ to_be_bytes w64 page) ++ rest) ≡ Some (PageDone queue page, rest)
 unfolding page_done_at
 page_done_again queue page rest fields =
-    ap page_done_at (append_assoc (to_be_bytes w32 queue) (to_be_bytes w64 page) rest) ∙ rw (again32 queue (to_be_bytes w64 page ++ rest) fields.0, page_again page rest fields.1) refl
+    ap page_done_at (append_assoc (to_be_bytes w32 queue) (to_be_bytes w64 page) rest) ∙ rw (again32 queue (to_be_bytes w64 page ++ rest) fields.0, again64 page rest fields.1) refl
 
 page_tx_again : (tx : MessageId) (last : List (ℕ × ℕ)) (rest : List ℕ) → HasFields (PageTx tx last) → page_tx_at ((id_bytes tx ++ pages_bytes last) ++ rest) ≡ Some (PageTx tx last, rest)
 unfolding page_tx_at
@@ -327,7 +321,7 @@ large_ack_again queue message rest fields =
 first_page_again : (address page : ℕ) (rest : List ℕ) → HasFields (FirstPage address page) → first_page_at ((to_be_bytes w32 address ++ to_be_bytes w64 page) ++ rest) ≡ Some (FirstPage address page, rest)
 unfolding first_page_at
 first_page_again address page rest fields =
-    ap first_page_at (append_assoc (to_be_bytes w32 address) (to_be_bytes w64 page) rest) ∙ rw (again32 address (to_be_bytes w64 page ++ rest) fields.0, page_again page rest fields.1) refl
+    ap first_page_at (append_assoc (to_be_bytes w32 address) (to_be_bytes w64 page) rest) ∙ rw (again32 address (to_be_bytes w64 page ++ rest) fields.0, again64 page rest fields.1) refl
 
 next_queue_again : (queue : ℕ) (rest : List ℕ) → HasFields (NextQueue queue) → next_queue_at (to_be_bytes w32 queue ++ rest) ≡ Some (NextQueue queue, rest)
 unfolding next_queue_at
@@ -340,7 +334,7 @@ ack_run_again queue page first last rest fields =
     let three : List ℕ = to_be_bytes w32 last ++ rest in
     let two : List ℕ = to_be_bytes w32 first ++ three in
     ap ack_run_at (regroup_four (to_be_bytes w32 queue) (to_be_bytes w64 page) (to_be_bytes w32 first) (to_be_bytes w32 last) rest)
-    ∙ rw (again32 queue (to_be_bytes w64 page ++ two) fields.0, page_again page two fields.1, again32 first three (omega (arith, fields.2, fields.3)), again32 last rest fields.3, le-leb first last fields.2) refl
+    ∙ rw (again32 queue (to_be_bytes w64 page ++ two) fields.0, again64 page two fields.1, again32 first three (omega (arith, fields.2, fields.3)), again32 last rest fields.3, le-leb first last fields.2) refl
 
 -- ---- entries
 

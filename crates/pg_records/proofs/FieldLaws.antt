@@ -3,6 +3,7 @@ use Rattle.std.proofs.Common.{◌≡◌, ℕ, ◌^◌, List, [], ◌∷◌, ◌+
 use Rattle.std.specs.Int.{w8, w16, to_be_bytes}
 use Rattle.std.proofs.lemmas.Option.{cond_some}
 use Rattle.std.proofs.lemmas.Str.{IsUtf8-from_is_utf8, is_utf8-from_IsUtf8}
+use Rattle.pg_msg.specs.declared.limits.TheConstants.{LONGEST_DUPLICATE_ID}
 use Rattle.pg_msg.specs.Messages.{IsDuplicateId}
 use Rattle.pg_msg.specs.Reading.{number_at, octets_at}
 use Rattle.pg_msg.proofs.TestLaws.{between_decides}
@@ -38,9 +39,9 @@ duplicate_id_takes bytes id rest fits e =
     let passed = cond_some _ _ _ b.2 in
     let both = Takes-then bytes (a.0.0 ∷ []) a.0.1 b.0.0 b.0.1 count.0 content.0 in
     let whole : Takes bytes (short_bytes b.0.0) b.0.1 = subst (λ (n : ℕ). Takes bytes (n ∷ b.0.0) b.0.1) (sym content.1) both in
-    let in_range : IsDuplicateId b.0.0 = rw content.1 ((between_decides 1 64 a.0.0).0 passed.0) in
+    let in_range : IsDuplicateId b.0.0 = rw content.1 ((between_decides 1 LONGEST_DUPLICATE_ID a.0.0).0 passed.0) in
     subst (λ (x : List ℕ × List ℕ). Takes bytes (short_bytes x.0) x.1 × IsDuplicateId x.0) passed.1 (whole, in_range)
 
 pub duplicate_id_again : (id rest : List ℕ) → IsDuplicateId id → duplicate_id_at (short_bytes id ++ rest) ≡ Some (id, rest)
 unfolding duplicate_id_at
-duplicate_id_again id rest is = rw (byte_again (length id) (id ++ rest), octets_again id rest, (between_decides 1 64 (length id)).1 is) refl
+duplicate_id_again id rest is = rw (byte_again (length id) (id ++ rest), octets_again id rest, (between_decides 1 LONGEST_DUPLICATE_ID (length id)).1 is) refl

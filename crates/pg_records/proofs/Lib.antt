@@ -1,5 +1,5 @@
 pub mod Appending
+pub mod BatchBytes
 pub mod BatchLaws
 pub mod EntryLaws
 pub mod FieldLaws
-pub mod Spelling

@@ -1,3 +1,3 @@
-pub mod Acknowledgements
 pub mod Entries
+pub mod Heads
 pub mod Reading

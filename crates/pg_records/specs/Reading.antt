@@ -2,7 +2,8 @@
 use Rattle.std.specs.Prelude.{ℕ, zero, suc, Bool, true, false, List, [], ◌∷◌, length, Option, Some, None, nat_le, ◌==◌, if◌then◌else◌}
 use Rattle.std.specs.Int.{w8, w16, w32, w64}
 use Rattle.std.specs.Str.{is_utf8}
-use Rattle.pg_msg.specs.Reading.{Read, ◌>>=◌, guarded, is_between, number_at, positive_at, octets_at, id_at, name_at, queues_at, pages_at, message_at}
+use Rattle.pg_msg.specs.declared.limits.TheConstants.{LONGEST_DUPLICATE_ID}
+use Rattle.pg_msg.specs.Reading.{Read, ◌>>=◌, guarded, is_between, number_at, octets_at, id_at, name_at, queues_at, pages_at, message_at}
 use Rattle.pg_records.specs.declared.entry.Entry.{Entry}
 use Rattle.pg_records.specs.declared.entry.Entry.TheVariants.{Epoch, Address, Queue, DropQueue, Add, Ack, AckAt, PageDone, PageTx, Dup, LargeAdd, LargeAck, FirstPage, NextQueue, AckRun}
 
@@ -13,12 +14,12 @@ filter_at bytes = do
   filter ← octets_at count.0 count.1
   guarded (is_utf8 filter.0) filter
 
--- a length byte from 1 to 64 and so many bytes
+-- a length byte that isn't 0 or too great, and so many bytes
 unfoldable pub duplicate_id_at : List ℕ → Read (List ℕ)
 duplicate_id_at bytes = do
   count ← number_at w8 bytes
   id ← octets_at count.0 count.1
-  guarded (is_between 1 64 count.0) id
+  guarded (is_between 1 LONGEST_DUPLICATE_ID count.0) id
 
 unfoldable pub epoch_at : List ℕ → Read Entry
 epoch_at bytes = do
@@ -64,14 +65,14 @@ ack_at bytes = do
 unfoldable pub place_at : List ℕ → Read Entry
 place_at bytes = do
   queue ← number_at w32 bytes
-  page ← positive_at w64 queue.1
+  page ← number_at w64 queue.1
   index ← number_at w32 page.1
   Some (AckAt queue.0 page.0 index.0, index.1)
 
 unfoldable pub page_done_at : List ℕ → Read Entry
 page_done_at bytes = do
   queue ← number_at w32 bytes
-  page ← positive_at w64 queue.1
+  page ← number_at w64 queue.1
   Some (PageDone queue.0 page.0, page.1)
 
 unfoldable pub page_tx_at : List ℕ → Read Entry
@@ -102,7 +103,7 @@ large_ack_at bytes = do
 unfoldable pub first_page_at : List ℕ → Read Entry
 first_page_at bytes = do
   address ← number_at w32 bytes
-  page ← positive_at w64 address.1
+  page ← number_at w64 address.1
   Some (FirstPage address.0 page.0, page.1)
 
 unfoldable pub next_queue_at : List ℕ → Read Entry
@@ -113,7 +114,7 @@ next_queue_at bytes = do
 unfoldable pub ack_run_at : List ℕ → Read Entry
 ack_run_at bytes = do
   queue ← number_at w32 bytes
-  page ← positive_at w64 queue.1
+  page ← number_at w64 queue.1
   from ← number_at w32 page.1
   to ← number_at w32 from.1
   guarded (nat_le from.0 to.0) (AckRun queue.0 page.0 from.0 to.0, to.1)

@@ -7,9 +7,10 @@ ghost use Rattle.pg_records.specs.Reading.{filter_at, duplicate_id_at, epoch_at,
 
 use crate::entry::Entry;
 use pg_bytes::{Octets, Text};
+use pg_msg::LONGEST_DUPLICATE_ID;
 use pg_msg::fields::{
-    Unread, read_bytes, read_message, read_message_id, read_name, read_pages, read_positive_u64,
-    read_queue_ids, read_u8, read_u16, read_u32, read_u64, text_of,
+    Unread, read_bytes, read_message, read_message_id, read_name, read_pages, read_queue_ids,
+    read_u8, read_u16, read_u32, read_u64, text_of,
 };
 use std::alloc::{AllocError, Global};
 
@@ -192,7 +193,7 @@ fn read_ack_at(bytes: &[u8]) -> Result<(Entry, &[u8]), Unread>
     ensures { Gives (λ read. (read.0, read.1.now)) result (place_at bytes.now) }
 {
     let (queue, rest) = read_u32(bytes)?;
-    let (page, rest) = read_positive_u64(rest)?;
+    let (page, rest) = read_u64(rest)?;
     let (index, rest) = read_u32(rest)?;
     Ok((Entry::AckAt { queue, page, index }, rest))
 }
@@ -202,7 +203,7 @@ fn read_page_done(bytes: &[u8]) -> Result<(Entry, &[u8]), Unread>
     ensures { Gives (λ read. (read.0, read.1.now)) result (page_done_at bytes.now) }
 {
     let (queue, rest) = read_u32(bytes)?;
-    let (page, rest) = read_positive_u64(rest)?;
+    let (page, rest) = read_u64(rest)?;
     Ok((Entry::PageDone { queue, page }, rest))
 }
 
@@ -231,7 +232,7 @@ fn read_duplicate_id(alloc: Global, bytes: &[u8]) -> Result<(Octets, &[u8]), Unr
 {
     let (count, rest) = read_u8(bytes)?;
     let (id, rest) = read_bytes(rest, usize::from(count))?;
-    if count == 0 || count > 64 {
+    if count == 0 || LONGEST_DUPLICATE_ID < usize::from(count) {
         return Err(Unread::Malformed);
     }
     Ok((Octets::from_slice(alloc, id)?, rest))
@@ -266,7 +267,7 @@ fn read_first_page(bytes: &[u8]) -> Result<(Entry, &[u8]), Unread>
     ensures { Gives (λ read. (read.0, read.1.now)) result (first_page_at bytes.now) }
 {
     let (address, rest) = read_u32(bytes)?;
-    let (page, rest) = read_positive_u64(rest)?;
+    let (page, rest) = read_u64(rest)?;
     Ok((Entry::FirstPage { address, page }, rest))
 }
 
@@ -283,7 +284,7 @@ fn read_ack_run(bytes: &[u8]) -> Result<(Entry, &[u8]), Unread>
     ensures { Gives (λ read. (read.0, read.1.now)) result (ack_run_at bytes.now) }
 {
     let (queue, rest) = read_u32(bytes)?;
-    let (page, rest) = read_positive_u64(rest)?;
+    let (page, rest) = read_u64(rest)?;
     let (from, rest) = read_u32(rest)?;
     let (to, rest) = read_u32(rest)?;
     if from > to {

@@ -3,13 +3,13 @@ ghost use Rattle.std.specs.Prelude.{◌≡◌, ◌<◌, ◌≤◌, ◌^◌, ◌�
 ghost use Rattle.std.specs.Int.{to_be_bytes, w32, w64};
 ghost use Rattle.pg_msg.specs.Lists.{queues_bytes, pages_bytes};
 ghost use Rattle.pg_msg.specs.Messages.{HasFields as MessageHasFields, id_bytes, message_bytes};
-ghost use Rattle.pg_records.specs.Acknowledgements.{IsAcknowledgement};
 ghost use Rattle.pg_records.specs.Entries.{short_bytes, filter_bytes, entry_bytes, batch_bytes, HasFields, HaveFields};
+ghost use Rattle.pg_records.specs.Heads.{head_bytes, behind_head};
 
 use crate::entry::Entry;
 use pg_bytes::{Octets, Text, put_bytes, put_u8, put_u16, put_u32, put_u64};
 use pg_msg::fields::{put_message, put_message_id, put_name, put_pages, put_queue_ids};
-use pg_msg::{Message, MessageId, Pages, QueueIds};
+use pg_msg::{Message, MessageId, QueueIds};
 use std::alloc::{AllocError, Global};
 
 /// The payload of a batch with these entries. `docs/FORMATS.md` gives the bytes of each. No entries are no bytes, which
@@ -30,65 +30,68 @@ fn put_entry(out: &mut Octets, entry: &Entry) -> Result<(), AllocError>
     requires { HasFields entry.now }
     ensures { OnOk result (out.new ≡ out.old ++ entry_bytes entry.now) }
 {
+    put_head(out, entry)?;
+    put_behind_head(out, entry)
+}
+
+// Appends the code and the first field.
+fn put_head(out: &mut Octets, entry: &Entry) -> Result<(), AllocError>
+    ensures { OnOk result (out.new ≡ out.old ++ head_bytes entry.now) }
+{
     match entry {
         Entry::Epoch { epoch } => put_number(out, 1, *epoch),
+        Entry::Address { address, .. } => put_number(out, 2, *address),
+        Entry::Queue { queue, .. } => put_number(out, 3, *queue),
+        Entry::DropQueue { queue } => put_number(out, 4, *queue),
+        Entry::Add { address, .. } => put_number(out, 5, *address),
+        Entry::Ack { queue, .. } => put_number(out, 6, *queue),
+        Entry::AckAt { queue, .. } => put_number(out, 7, *queue),
+        Entry::PageDone { queue, .. } => put_number(out, 8, *queue),
+        Entry::PageTx { tx, .. } => put_id(out, 9, *tx),
+        Entry::Dup { address, .. } => put_number(out, 10, *address),
+        Entry::LargeAdd { message, .. } => put_id(out, 11, *message),
+        Entry::LargeAck { queue, .. } => put_number(out, 12, *queue),
+        Entry::FirstPage { address, .. } => put_number(out, 13, *address),
+        Entry::NextQueue { queue } => put_number(out, 14, *queue),
+        Entry::AckRun { queue, .. } => put_number(out, 15, *queue),
+    }
+}
+
+// Appends the other fields.
+fn put_behind_head(out: &mut Octets, entry: &Entry) -> Result<(), AllocError>
+    requires { HasFields entry.now }
+    ensures { OnOk result (out.new ≡ out.old ++ behind_head entry.now) }
+{
+    match entry {
+        Entry::Epoch { .. } | Entry::DropQueue { .. } | Entry::NextQueue { .. } => Ok(()),
         Entry::Address {
-            address,
             name,
             max,
             page,
             ahead,
             dup,
-        } => put_address(out, *address, name, *max, *page, *ahead, *dup),
+            ..
+        } => put_address(out, name, *max, *page, *ahead, *dup),
         Entry::Queue {
-            queue,
             address,
             name,
             filter,
-        } => put_queue(out, *queue, *address, name, filter),
-        Entry::DropQueue { queue } => put_number(out, 4, *queue),
+            ..
+        } => put_queue(out, *address, name, filter),
         Entry::Add {
-            address,
             queues,
             message,
-        } => put_add(out, *address, queues, message),
-        Entry::PageTx { tx, last } => put_page_tx(out, *tx, last),
-        Entry::Dup { address, id } => put_dup(out, *address, id),
-        Entry::LargeAdd {
-            message,
-            length,
-            queues,
-        } => put_large_add(out, *message, *length, queues),
-        Entry::FirstPage { address, page } => put_page(out, 13, *address, *page),
-        Entry::NextQueue { queue } => put_number(out, 14, *queue),
-        _ => put_acknowledgement(out, entry),
-    }
-}
-
-// The same of an acknowledgement.
-fn put_acknowledgement(out: &mut Octets, entry: &Entry) -> Result<(), AllocError>
-    requires { IsAcknowledgement entry.now }
-    ensures { OnOk result (out.new ≡ out.old ++ entry_bytes entry.now) }
-{
-    match entry {
-        Entry::Ack { queue, message } => put_ack(out, 6, *queue, *message),
-        Entry::AckAt { queue, page, index } => {
-            put_page(out, 7, *queue, *page)?;
-            put_u32(out, *index)
-        }
-        Entry::PageDone { queue, page } => put_page(out, 8, *queue, *page),
-        Entry::LargeAck { queue, message } => put_ack(out, 12, *queue, *message),
-        Entry::AckRun {
-            queue,
-            page,
-            from,
-            to,
-        } => {
-            put_page(out, 15, *queue, *page)?;
-            put_u32(out, *from)?;
-            put_u32(out, *to)
-        }
-        _ => unreachable!(),
+            ..
+        } => put_add(out, queues, message),
+        Entry::Ack { message, .. } => put_message_id(out, *message),
+        Entry::AckAt { page, index, .. } => put_place(out, *page, *index),
+        Entry::PageDone { page, .. } => put_u64(out, *page),
+        Entry::PageTx { last, .. } => put_pages(out, last),
+        Entry::Dup { id, .. } => put_dup(out, id),
+        Entry::LargeAdd { length, queues, .. } => put_large_add(out, *length, queues),
+        Entry::LargeAck { message, .. } => put_message_id(out, *message),
+        Entry::FirstPage { page, .. } => put_u64(out, *page),
+        Entry::AckRun { page, from, to, .. } => put_run(out, *page, *from, *to),
     }
 }
 
@@ -100,26 +103,17 @@ fn put_number(out: &mut Octets, code: u8, number: u32) -> Result<(), AllocError>
     put_u32(out, number)
 }
 
-// Appends the code, the id of a queue or of an address, and the page.
-fn put_page(out: &mut Octets, code: u8, owner: u32, page: u64) -> Result<(), AllocError>
-    ensures { OnOk result (out.new ≡ out.old ++ code ∷ (to_be_bytes w32 owner ++ to_be_bytes w64 page)) }
+// Appends the code and the id.
+fn put_id(out: &mut Octets, code: u8, id: MessageId) -> Result<(), AllocError>
+    ensures { OnOk result (out.new ≡ out.old ++ code ∷ id_bytes id) }
 {
-    put_number(out, code, owner)?;
-    put_u64(out, page)
+    put_u8(out, code)?;
+    put_message_id(out, id)
 }
 
-// Appends the code, the id of the queue and that of the message.
-fn put_ack(out: &mut Octets, code: u8, queue: u32, message: MessageId) -> Result<(), AllocError>
-    ensures { OnOk result (out.new ≡ out.old ++ code ∷ (to_be_bytes w32 queue ++ id_bytes message)) }
-{
-    put_number(out, code, queue)?;
-    put_message_id(out, message)
-}
-
-// Appends an Address entry.
+// Appends the name and the settings of an address.
 fn put_address(
     out: &mut Octets,
-    address: u32,
     name: &Text,
     max: u64,
     page: u64,
@@ -127,10 +121,9 @@ fn put_address(
     dup: u32,
 ) -> Result<(), AllocError>
     requires { length name.now < 2 ^ 8 }
-    ensures { OnOk result (out.new ≡ out.old ++ 2 ∷ (to_be_bytes w32 address ++ (short_bytes name.now
-        ++ (to_be_bytes w64 max ++ (to_be_bytes w64 page ++ (to_be_bytes w64 ahead ++ to_be_bytes w32 dup)))))) }
+    ensures { OnOk result (out.new ≡ out.old ++ (short_bytes name.now ++ (to_be_bytes w64 max
+        ++ (to_be_bytes w64 page ++ (to_be_bytes w64 ahead ++ to_be_bytes w32 dup))))) }
 {
-    put_number(out, 2, address)?;
     put_name(out, name)?;
     put_settings(out, max, page, ahead, dup)
 }
@@ -152,20 +145,13 @@ fn put_settings(
     put_u32(out, dup)
 }
 
-// Appends a Queue entry.
-fn put_queue(
-    out: &mut Octets,
-    queue: u32,
-    address: u32,
-    name: &Text,
-    filter: &Text,
-) -> Result<(), AllocError>
+// Appends the id of its address, the name and the filter of a queue.
+fn put_queue(out: &mut Octets, address: u32, name: &Text, filter: &Text) -> Result<(), AllocError>
     requires name_fits { length name.now < 2 ^ 8 }
     requires filter_fits { length filter.now < 2 ^ 16 }
-    ensures { OnOk result (out.new ≡ out.old ++ 3 ∷ (to_be_bytes w32 queue ++ (to_be_bytes w32 address
-        ++ (short_bytes name.now ++ filter_bytes filter.now)))) }
+    ensures { OnOk result (out.new ≡ out.old ++
+        (to_be_bytes w32 address ++ (short_bytes name.now ++ filter_bytes filter.now))) }
 {
-    put_number(out, 3, queue)?;
     put_u32(out, address)?;
     put_name(out, name)?;
     put_filter(out, filter)
@@ -181,54 +167,48 @@ fn put_filter(out: &mut Octets, filter: &Text) -> Result<(), AllocError>
     put_bytes(out, text)
 }
 
-// Appends an Add entry.
-fn put_add(
-    out: &mut Octets,
-    address: u32,
-    queues: &QueueIds,
-    message: &Message,
-) -> Result<(), AllocError>
+// Appends the queues that a message goes to, and the message.
+fn put_add(out: &mut Octets, queues: &QueueIds, message: &Message) -> Result<(), AllocError>
     requires queues_fit { length queues.now < 2 ^ 16 }
     requires message_fits { MessageHasFields message.now }
-    ensures { OnOk result (out.new ≡ out.old ++ 5 ∷ (to_be_bytes w32 address ++ (queues_bytes queues.now ++ message_bytes message.now))) }
+    ensures { OnOk result (out.new ≡ out.old ++ (queues_bytes queues.now ++ message_bytes message.now)) }
 {
-    put_number(out, 5, address)?;
     put_queue_ids(out, queues)?;
     put_message(out, message)
 }
 
-// Appends a PageTx entry.
-fn put_page_tx(out: &mut Octets, tx: MessageId, last: &Pages) -> Result<(), AllocError>
-    requires { length last.now < 2 ^ 16 }
-    ensures { OnOk result (out.new ≡ out.old ++ 9 ∷ (id_bytes tx ++ pages_bytes last.now)) }
+// Appends the page and the place in it.
+fn put_place(out: &mut Octets, page: u64, index: u32) -> Result<(), AllocError>
+    ensures { OnOk result (out.new ≡ out.old ++ (to_be_bytes w64 page ++ to_be_bytes w32 index)) }
 {
-    put_u8(out, 9)?;
-    put_message_id(out, tx)?;
-    put_pages(out, last)
+    put_u64(out, page)?;
+    put_u32(out, index)
 }
 
-// Appends a Dup entry.
-fn put_dup(out: &mut Octets, address: u32, id: &Octets) -> Result<(), AllocError>
-    requires { length id.now < 2 ^ 8 }
-    ensures { OnOk result (out.new ≡ out.old ++ 10 ∷ (to_be_bytes w32 address ++ short_bytes id.now)) }
+// Appends the page, the first place and the last.
+fn put_run(out: &mut Octets, page: u64, from: u32, to: u32) -> Result<(), AllocError>
+    ensures { OnOk result (out.new ≡ out.old ++
+        (to_be_bytes w64 page ++ (to_be_bytes w32 from ++ to_be_bytes w32 to))) }
 {
-    put_number(out, 10, address)?;
+    put_u64(out, page)?;
+    put_u32(out, from)?;
+    put_u32(out, to)
+}
+
+// Appends the length of the duplicate id in one byte, and the id.
+fn put_dup(out: &mut Octets, id: &Octets) -> Result<(), AllocError>
+    requires { length id.now < 2 ^ 8 }
+    ensures { OnOk result (out.new ≡ out.old ++ short_bytes id.now) }
+{
     put_u8(out, id.len() as u8)?;
     put_bytes(out, id.as_slice())
 }
 
-// Appends a LargeAdd entry.
-fn put_large_add(
-    out: &mut Octets,
-    message: MessageId,
-    size: u64,
-    queues: &QueueIds,
-) -> Result<(), AllocError>
+// Appends the length of a large message, and the queues that it goes to.
+fn put_large_add(out: &mut Octets, size: u64, queues: &QueueIds) -> Result<(), AllocError>
     requires { length queues.now < 2 ^ 16 }
-    ensures { OnOk result (out.new ≡ out.old ++ 11 ∷ (id_bytes message ++ (to_be_bytes w64 size ++ queues_bytes queues.now))) }
+    ensures { OnOk result (out.new ≡ out.old ++ (to_be_bytes w64 size ++ queues_bytes queues.now)) }
 {
-    put_u8(out, 11)?;
-    put_message_id(out, message)?;
     put_u64(out, size)?;
     put_queue_ids(out, queues)
 }

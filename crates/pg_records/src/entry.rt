@@ -5,15 +5,16 @@ use pg_msg::{Message, MessageId, Pages, QueueIds};
 
 /// A change of what outlives a run, as the journal has it. `docs/FORMATS.md` gives the code and the bytes of each.
 ///
-/// An address and a queue are named by their ids, which are never used again. Pages are numbered from 1.
+/// An address and a queue are named by their ids, which are never used again. Pages are numbered
+/// from 1; that a page is one that there is isn't asked before the entry is applied.
 #[derive(PartialEq, Eq, Drop)]
 pub enum Entry {
     /// The broker was opened.
     Epoch {
         epoch: u32,
     },
-    /// An address was made. `max` and `ahead` are bytes of messages, `page` is bytes of a page file, and `dup` is a count
-    /// of duplicate ids.
+    /// An address was made. `max` and `ahead` are bytes of messages, `page` is bytes of a page file, and `dup` is a
+    /// count of duplicate ids.
     Address {
         address: u32,
         name: Text,

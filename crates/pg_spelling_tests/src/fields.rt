@@ -95,7 +95,7 @@ enum Field {
     Pages,
 }
 
-const REFUSED: [(Field, &[u8]); 17] = [
+const REFUSED: [(Field, &[u8]); 16] = [
     (Field::Name, b""),
     (Field::Name, b"\0"),
     (Field::Name, b"\x02Q"),
@@ -110,7 +110,6 @@ const REFUSED: [(Field, &[u8]); 17] = [
     (Field::Queues, b"\0\x02\0\0\0\x01\0\0\0\x01"),
     (Field::Queues, b"\0\x02\0\0\0\x02\0\0\0\x01"),
     (Field::Pages, b"\0\0"),
-    (Field::Pages, b"\0\x01\0\0\0\x02\0\0\0\0\0\0\0\0"),
     (Field::Pages, b"\0\x01\0\0\0\x02\0\0\0\0\0\0\0"),
     (
         Field::Pages,
@@ -136,6 +135,11 @@ fn wrong_field(alloc: Global) -> Option<&'static [u8]> {
     None
 }
 
+// The page 0 is read as any other.
+fn reads_page_zero(alloc: Global) -> bool {
+    why_refused(alloc, Field::Pages, b"\0\x01\0\0\0\x02\0\0\0\0\0\0\0\0").is_none()
+}
+
 // At most 1,000 queues.
 fn keeps_the_limit(alloc: Global) -> Result<bool, AllocError> {
     let most = queues_to(alloc, 1000)?;
@@ -148,6 +152,7 @@ fn keeps_the_limit(alloc: Global) -> Result<bool, AllocError> {
 
 #[test]
 fn refuses_what_is_no_field(rt: HostRuntime) -> Result<(), Fail> {
-    assert!(rt; wrong_field(rt.alloc()).is_none() && keeps_the_limit(rt.alloc())?);
+    let alloc = rt.alloc();
+    assert!(rt; wrong_field(alloc).is_none() && reads_page_zero(alloc) && keeps_the_limit(alloc)?);
     Ok(())
 }

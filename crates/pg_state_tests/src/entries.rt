@@ -2,7 +2,7 @@
 use pg_bytes::{Octets, Text};
 use pg_disk::Rule;
 use pg_fold::{Durable, FoldError};
-use pg_msg::{Body, Message, MessageId, Properties, QueueIds};
+use pg_msg::{Body, Message, MessageId, Pages, Properties, QueueIds};
 use pg_records::Entry;
 use std::alloc::{AllocError, Global};
 
@@ -123,6 +123,32 @@ pub fn broken(alloc: Global, durable: Durable, entry: Entry) -> Result<Option<Ru
 pub fn broken_there(alloc: Global, entry: Entry) -> Result<Option<Rule>, FoldError> {
     let durable = made(alloc)?;
     Ok(broken(alloc, durable, entry)?)
+}
+
+/// An entry that names the page: an AckAt, a PageDone, a FirstPage or an AckRun entry.
+pub fn paged(code: u8, page: u64) -> Entry {
+    match code {
+        7 => Entry::AckAt {
+            queue: 1,
+            page,
+            index: 0,
+        },
+        8 => Entry::PageDone { queue: 1, page },
+        13 => Entry::FirstPage { address: 1, page },
+        _ => Entry::AckRun {
+            queue: 1,
+            page,
+            from: 0,
+            to: 0,
+        },
+    }
+}
+
+/// A PageTx entry of one address.
+pub fn page_tx(alloc: Global, address: u32, page: u64) -> Result<Entry, AllocError> {
+    let mut last = Pages::new(alloc);
+    last.push(address, page)?;
+    Ok(Entry::PageTx { tx: FIRST, last })
 }
 
 /// An entry with one number: an Epoch, a DropQueue or a NextQueue entry, or one that isn't built.

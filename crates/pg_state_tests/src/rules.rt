@@ -1,5 +1,7 @@
 // The rule that each entry breaks.
-use crate::entries::{Settings, USUAL, add, address, broken_there, numbered, queue};
+use crate::entries::{
+    Settings, USUAL, add, address, broken_there, numbered, page_tx, paged, queue,
+};
 use pg_disk::Rule;
 use pg_fold::FoldError;
 use pg_msg::MessageId;
@@ -95,6 +97,9 @@ const NUMBERS: [(u8, u32, Option<Rule>); 19] = [
     (15, 1, Some(Rule::Name)),
 ];
 
+// The codes of the entries that name one page. No address has the page 0.
+const PAGED: [u8; 4] = [7, 8, 13, 15];
+
 // The first row of each table at which another rule is broken than the table says.
 fn wrong_address(alloc: Global) -> Result<Option<u32>, FoldError> {
     for (id, name, settings, rule) in ADDRESSES {
@@ -143,6 +148,18 @@ fn wrong_number(alloc: Global) -> Result<Option<u32>, FoldError> {
     Ok(None)
 }
 
+fn wrong_page(alloc: Global) -> Result<Option<u8>, FoldError> {
+    for code in PAGED {
+        if broken_there(alloc, paged(code, 0))? != Some(Rule::Name) {
+            return Ok(Some(code));
+        }
+    }
+    if broken_there(alloc, page_tx(alloc, 1, 0)?)? != Some(Rule::Name) {
+        return Ok(Some(9));
+    }
+    Ok(None)
+}
+
 #[test]
 fn tells_the_rule_that_an_address_breaks(rt: HostRuntime) -> Result<(), Fail> {
     assert!(rt; wrong_address(rt.alloc())?.is_none());
@@ -169,6 +186,7 @@ fn tells_the_rule_that_an_acknowledgement_breaks(rt: HostRuntime) -> Result<(), 
 
 #[test]
 fn tells_the_rule_that_a_number_breaks(rt: HostRuntime) -> Result<(), Fail> {
-    assert!(rt; wrong_number(rt.alloc())?.is_none());
+    let alloc = rt.alloc();
+    assert!(rt; wrong_number(alloc)?.is_none() && wrong_page(alloc)?.is_none());
     Ok(())
 }

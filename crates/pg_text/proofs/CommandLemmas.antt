@@ -1,17 +1,23 @@
 -- The command that a line spells, from the pieces of the line.
-use Rattle.std.proofs.Common.{◌≡◌, ◌≢◌, ℕ, ◌<◌, ◌≤◌, List, [], ◌∷◌, ◌++◌, length, None, codes, refl, sym, subst, ap, ◌∙◌, arith}
+use Rattle.std.proofs.Common.{◌≡◌, ◌≢◌, ℕ, ◌<◌, ◌≤◌, Bool, true, false, List, [], ◌∷◌, ◌++◌, length, take, Some, None, codes, refl, sym, subst, ap, ◌∙◌, arith}
+use Rattle.std.specs.List.{position_or_len}
+use Rattle.std.specs.Str.{bytes_eq}
 use Rattle.std.proofs.lemmas.List.{append_cancel_left}
 use Rattle.pg_msg.specs.declared.command.Command.{Command}
-use Rattle.pg_msg.specs.declared.command.Command.TheVariants.{Address, Queue, Send, Count}
+use Rattle.pg_msg.specs.declared.command.Command.TheVariants.{Address, Queue, Send}
 use Rattle.pg_msg.specs.Names.{IsName}
 use Rattle.pg_msg.specs.Commands.{AreSettings, longest_body}
 use Rattle.pg_text.specs.Spelling.{Spells}
 use Rattle.pg_text.specs.Words.{BeginsWithName, EndsWord, settings_text}
-use Rattle.pg_text.proofs.WordLemmas.{first_word_unique, IsWord-name}
+use Rattle.pg_text.proofs.WordLemmas.{first_word_unique, is_space, IsWord-name}
 
--- lists that are the same begin with the same number
-first_same : (x y : ℕ) (xs ys : List ℕ) → x ∷ xs ≡ y ∷ ys → x ≡ y
-first_same x y xs ys same = cc
+-- whether this is the first word of the line
+abbrev has_keyword : List ℕ → List ℕ → Bool
+has_keyword word line = bytes_eq (take (position_or_len is_space line) line) word
+
+-- a line that begins with one word doesn't begin with another one
+other_word : true ≡ false → ⊥
+other_word same = cc
 
 -- behind a name stands one thing
 behind_name : (arguments name rest other behind : List ℕ) → BeginsWithName arguments name rest → IsName other → EndsWord behind → arguments ≡ other ++ behind → rest ≡ behind
@@ -41,10 +47,7 @@ address_arguments arguments (Address name max page ahead dup) spells = record {
   are_settings = spells.in_range.1;
   bytes = append_cancel_left (codes "address ") arguments (name ++ settings_text max page ahead dup) spells.bytes;
 }
-address_arguments arguments (Queue name address filter) spells = absurd (omega (arith, first_same _ _ _ _ spells.bytes))
-address_arguments arguments (Send address tx id properties body) spells = absurd (omega (arith, first_same _ _ _ _ spells.bytes))
-address_arguments arguments (Count queue) spells = absurd (omega (arith, first_same _ _ _ _ spells.bytes))
-address_arguments arguments _ spells = absurd spells.in_range
+address_arguments arguments _ spells = absurd (other_word (ap (has_keyword (codes "address")) spells.bytes))
 
 -- the names that the arguments of `queue` give
 record QueueArguments (arguments : List ℕ) : Type 0 where
@@ -63,10 +66,8 @@ queue_arguments arguments (Queue name address None) spells = record {
   is_address = spells.in_range.1;
   bytes = append_cancel_left (codes "queue ") arguments (name ++ (codes " on " ++ address)) spells.bytes;
 }
-queue_arguments arguments (Address name max page ahead dup) spells = absurd (omega (arith, first_same _ _ _ _ spells.bytes))
-queue_arguments arguments (Send address tx id properties body) spells = absurd (omega (arith, first_same _ _ _ _ spells.bytes))
-queue_arguments arguments (Count queue) spells = absurd (omega (arith, first_same _ _ _ _ spells.bytes))
-queue_arguments arguments _ spells = absurd spells.in_range
+queue_arguments arguments (Queue name address (Some filter)) spells = absurd spells.in_range
+queue_arguments arguments _ spells = absurd (other_word (ap (has_keyword (codes "queue")) spells.bytes))
 
 -- the name and the body that the arguments of `send` give
 record SendArguments (arguments : List ℕ) : Type 0 where
@@ -85,10 +86,10 @@ send_arguments arguments (Send address None None [] body) spells = record {
   short = spells.in_range.1;
   bytes = append_cancel_left (codes "send ") arguments (address ++ (codes " body " ++ body)) spells.bytes;
 }
-send_arguments arguments (Address name max page ahead dup) spells = absurd (omega (arith, first_same _ _ _ _ spells.bytes))
-send_arguments arguments (Queue name address filter) spells = absurd (omega (arith, first_same _ _ _ _ spells.bytes))
-send_arguments arguments (Count queue) spells = absurd (omega (arith, first_same _ _ _ _ spells.bytes))
-send_arguments arguments _ spells = absurd spells.in_range
+send_arguments arguments (Send address None None (property ∷ properties) body) spells = absurd spells.in_range
+send_arguments arguments (Send address None (Some id) properties body) spells = absurd spells.in_range
+send_arguments arguments (Send address (Some tx) id properties body) spells = absurd spells.in_range
+send_arguments arguments _ spells = absurd (other_word (ap (has_keyword (codes "send")) spells.bytes))
 
 -- where no settings follow the name, the arguments are those of no address
 pub no_address : (arguments name rest : List ℕ) → BeginsWithName arguments name rest → ((max page ahead dup : ℕ) → AreSettings max page ahead dup → rest ≢ settings_text max page ahead dup) → (command : Command) → Spells (codes "address " ++ arguments) command → ⊥

@@ -31,7 +31,7 @@ IsWord-from_All [] _ = tt
 IsWord-from_All (byte ∷ bytes) each = (All-head (λ b. b ≢ 32) byte bytes each, IsWord-from_All bytes (All-tail (λ b. b ≢ 32) byte bytes each))
 
 -- the test for a space
-abbrev is_space : ℕ → Bool
+abbrev pub is_space : ℕ → Bool
 is_space byte = eqb byte 32
 
 one_more : (n : ℕ) → 1 + n ≡ suc n

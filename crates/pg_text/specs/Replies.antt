@@ -3,17 +3,28 @@ use Rattle.std.specs.Prelude.{◌≡◌, ◌≢◌, ℕ, List, [], ◌∷◌, �
 use Rattle.std.specs.Fmt.{decimal}
 use Rattle.pg_msg.specs.declared.message.MessageId.{MessageId}
 use Rattle.pg_msg.specs.declared.reply.Reply.{Reply}
-use Rattle.pg_msg.specs.declared.reply.Reply.TheVariants.{Done, No, Sent, Unrouted, Count}
+use Rattle.pg_msg.specs.declared.reply.Reply.TheVariants as replies
 use Rattle.pg_msg.specs.declared.reply.Refusal.{Refusal}
-use Rattle.pg_msg.specs.declared.reply.Refusal.TheVariants.{Line, Name, Address, Queue}
+use Rattle.pg_msg.specs.declared.reply.Refusal.TheVariants as refusals
 
 -- the word of a refusal that is built; the others have none yet
 abbrev pub refusal_word : Refusal → List ℕ
-refusal_word Line = codes "line"
-refusal_word Name = codes "name"
-refusal_word Address = codes "address"
-refusal_word Queue = codes "queue"
-refusal_word _ = []
+refusal_word refusals.Line = codes "line"
+refusal_word refusals.Name = codes "name"
+refusal_word refusals.Address = codes "address"
+refusal_word refusals.Queue = codes "queue"
+refusal_word refusals.Room = []
+refusal_word (refusals.Filter at) = []
+refusal_word refusals.ConsumerOpen = []
+refusal_word refusals.Tx = []
+refusal_word refusals.TxFailed = []
+refusal_word refusals.Size = []
+refusal_word refusals.Duplicate = []
+refusal_word refusals.Ids = []
+refusal_word refusals.Consumer = []
+refusal_word refusals.Delivery = []
+refusal_word refusals.Large = []
+refusal_word refusals.Range = []
 
 -- `E-N`
 abbrev pub id_text : MessageId → List ℕ
@@ -21,12 +32,18 @@ id_text id = decimal id.epoch ++ (45 ∷ decimal id.number)
 
 -- the text of a reply that is built; the others have none yet
 abbrev pub reply_text : Reply → List ℕ
-reply_text Done = codes "ok"
-reply_text (No refusal) = codes "no " ++ refusal_word refusal
-reply_text (Sent id) = codes "sent " ++ id_text id
-reply_text Unrouted = codes "unrouted"
-reply_text (Count count) = codes "count " ++ decimal count
-reply_text _ = []
+reply_text replies.Done = codes "ok"
+reply_text (replies.No refusal) = codes "no " ++ refusal_word refusal
+reply_text (replies.Sent id) = codes "sent " ++ id_text id
+reply_text replies.Unrouted = codes "unrouted"
+reply_text (replies.Count count) = codes "count " ++ decimal count
+reply_text (replies.Given message) = []
+reply_text replies.Empty = []
+reply_text (replies.Bytes octets) = []
+reply_text (replies.Removed page) = []
+reply_text (replies.First page) = []
+reply_text replies.Nothing = []
+reply_text (replies.Stat paging resident loaded pages first) = []
 
 -- with its line end
 abbrev pub reply_line : Reply → List ℕ

@@ -46,7 +46,9 @@ pub record BeginsWithSetting (line keyword : List ℕ) (least most number : ℕ)
 
 -- ` max N page N ahead N dup N`
 abbrev pub settings_text : ℕ → ℕ → ℕ → ℕ → List ℕ
-settings_text max page ahead dup = codes " max " ++ (decimal max ++ (codes " page " ++ (decimal page ++ (codes " ahead " ++ (decimal ahead ++ (codes " dup " ++ decimal dup))))))
+settings_text max page ahead dup =
+    codes " max " ++ (decimal max ++
+    (codes " page " ++ (decimal page ++ (codes " ahead " ++ (decimal ahead ++ (codes " dup " ++ decimal dup))))))
 
 -- the command that the keyword and the arguments spell, or none where they spell none
 abbrev pub ReadsBehind : List ℕ → List ℕ → Option Command → Type 0

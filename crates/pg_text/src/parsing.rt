@@ -6,23 +6,13 @@ ghost use Rattle.pg_text.specs.Words.{ReadsBehind, settings_text};
 
 use crate::words;
 use pg_bytes::{Octets, Text};
-use pg_msg::{Command, Properties};
+use pg_msg::{
+    Command, GREATEST_AHEAD, GREATEST_DUP, GREATEST_MAX, GREATEST_PAGE, LONGEST_BODY, Properties,
+};
 use std::alloc::{AllocError, Global};
 
 // A line has at most so many bytes.
 const LONGEST_LINE: usize = 1_048_576;
-
-// The greatest settings of an address.
-const GREATEST_MAX: u64 = 1_000_000_000_000;
-
-const GREATEST_PAGE: u64 = 1_000_000_000;
-
-const GREATEST_AHEAD: u64 = 1_000_000_000;
-
-const GREATEST_DUP: u64 = 65_535;
-
-// The body of a message has at most so many bytes.
-const LONGEST_BODY: usize = 1000;
 
 // The settings of an address, as a line gives them.
 #[derive(Clone, Copy)]
@@ -86,7 +76,7 @@ fn address_settings(line: &[u8]) -> Option<AddressSettings>
     let (max, line) = words::setting(line, b" max ", 0, GREATEST_MAX)?;
     let (page, line) = words::setting(line, b" page ", 1, GREATEST_PAGE)?;
     let (ahead, line) = words::setting(line, b" ahead ", 0, GREATEST_AHEAD)?;
-    let (dup, line) = words::setting(line, b" dup ", 0, GREATEST_DUP)?;
+    let (dup, line) = words::setting(line, b" dup ", 0, GREATEST_DUP as u64)?;
     if !line.is_empty() {
         return None;
     }

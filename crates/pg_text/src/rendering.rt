@@ -24,8 +24,14 @@ pub fn render(alloc: Global, reply: Reply) -> Result<Octets, AllocError>
             let line = format!(in alloc; "count {count}\n")?;
             Ok(Octets::from_vec(line.into_bytes()))
         }
-        // No other reply is given yet.
-        _ => Ok(Octets::new(alloc)),
+        // None of these is given yet.
+        Reply::Given(_)
+        | Reply::Empty
+        | Reply::Bytes(_)
+        | Reply::Removed(_)
+        | Reply::First(_)
+        | Reply::Nothing
+        | Reply::Stat { .. } => Ok(Octets::new(alloc)),
     }
 }
 
@@ -39,7 +45,18 @@ fn refusal_line(refusal: Refusal) -> &'static [u8]
         Refusal::Name => b"no name\n",
         Refusal::Address => b"no address\n",
         Refusal::Queue => b"no queue\n",
-        // No other refusal is given yet.
-        _ => b"",
+        // None of these is given yet.
+        Refusal::Room
+        | Refusal::Filter(_)
+        | Refusal::ConsumerOpen
+        | Refusal::Tx
+        | Refusal::TxFailed
+        | Refusal::Size
+        | Refusal::Duplicate
+        | Refusal::Ids
+        | Refusal::Consumer
+        | Refusal::Delivery
+        | Refusal::Large
+        | Refusal::Range => b"",
     }
 }

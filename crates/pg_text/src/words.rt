@@ -5,8 +5,7 @@ ghost use Rattle.std.specs.Fmt.{decimal};
 ghost use Rattle.pg_msg.specs.Names.{IsName, IsNameStart, IsNameByte};
 ghost use Rattle.pg_text.specs.Words.{BeginsAsNumber, BeginsWithName, BeginsWithNumber, BeginsWithSetting, BeginsWithWord};
 
-// A name has at most so many bytes.
-const LONGEST_NAME: usize = 64;
+use pg_msg::LONGEST_NAME;
 
 // What is behind the keyword.
 pub fn keyword<'a>(line: &'a [u8], word: &[u8]) -> Option<&'a [u8]>

@@ -5,22 +5,20 @@ ghost use Rattle.pg_msg.specs.Lists.{ids_bytes, queues_bytes, rows_bytes, pages_
 ghost use Rattle.pg_msg.specs.Reading.{Gives, ascends, row_at, ids_at, queues_at, rows_at, pages_at};
 
 use crate::fields::Unread;
-use crate::fields::numbers::{read_positive_u64, read_u16, read_u32};
+use crate::fields::numbers::{read_u16, read_u32, read_u64};
+use crate::limits::MOST_QUEUES;
 use crate::pages::Pages;
 use crate::queue_ids::QueueIds;
 use pg_bytes::{Octets, put_u16, put_u32, put_u64};
 use std::alloc::{AllocError, Global};
 
-// A message goes to at most so many queues.
-const MOST_QUEUES: u16 = 1000;
-
-/// From 1 to 1,000 ids of queues, ascending, behind their count in 2 bytes.
+/// From 1 to `MOST_QUEUES` ids of queues, ascending, behind their count in 2 bytes.
 #[tactic(auto, unfolding(crate::specs::Reading::queues_at))]
 pub fn read_queue_ids(alloc: Global, bytes: &[u8]) -> Result<(QueueIds, &[u8]), Unread>
     ensures { Gives (λ read. (read.0, read.1.now)) result (queues_at bytes.now) }
 {
     let (count, rest) = read_u16(bytes)?;
-    if count < 1 || MOST_QUEUES < count {
+    if count < 1 || MOST_QUEUES < usize::from(count) {
         return Err(Unread::Malformed);
     }
     let (ids, rest) = read_ids(alloc, count, rest)?;
@@ -98,7 +96,7 @@ fn read_row(bytes: &[u8]) -> Result<((u32, u64), &[u8]), Unread>
     ensures { Gives (λ read. (read.0, read.1.now)) result (row_at bytes.now) }
 {
     let (address, rest) = read_u32(bytes)?;
-    let (page, rest) = read_positive_u64(rest)?;
+    let (page, rest) = read_u64(rest)?;
     Ok(((address, page), rest))
 }
 

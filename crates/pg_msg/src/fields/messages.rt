@@ -6,15 +6,10 @@ ghost use Rattle.pg_msg.specs.Reading.{Gives, body_of, dup_at, id_at, message_at
 use crate::fields::Unread;
 use crate::fields::numbers::{read_bytes, read_positive_u32, read_u8, read_u32};
 use crate::fields::values::{put_properties, read_properties};
+use crate::limits::{LONGEST_DUPLICATE_ID, WEIGHT_LIMIT};
 use crate::message::{Body, Message, MessageId};
 use pg_bytes::{Octets, put_bytes, put_u8, put_u32, put_u64};
 use std::alloc::{AllocError, Global};
-
-// A message takes at most so many bytes.
-const HEAVIEST: usize = 102_399;
-
-// A duplicate id has at most so many bytes.
-const LONGEST_ID: u8 = 64;
 
 // The kinds of messages.
 const PLAIN: u8 = 1;
@@ -42,7 +37,7 @@ pub fn read_message(alloc: Global, bytes: &[u8]) -> Result<(Message, &[u8]), Unr
     let (properties, rest) = read_properties(alloc, rest)?;
     let (part, rest) = read_part(kind, rest)?;
     // Tested before the body is copied.
-    if rest.len() + HEAVIEST < bytes.len() {
+    if bytes.len() >= rest.len() + WEIGHT_LIMIT as usize {
         return Err(Unread::Malformed);
     }
     let body = body_of(alloc, kind, part)?;
@@ -83,7 +78,7 @@ fn read_dup(alloc: Global, bytes: &[u8]) -> Result<(Option<Octets>, &[u8]), Unre
     ensures { Gives (λ read. (read.0, read.1.now)) result (dup_at bytes.now) }
 {
     let (count, rest) = read_u8(bytes)?;
-    if LONGEST_ID < count {
+    if LONGEST_DUPLICATE_ID < usize::from(count) {
         return Err(Unread::Malformed);
     }
     let (id, rest) = read_bytes(rest, count as usize)?;

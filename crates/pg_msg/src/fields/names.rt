@@ -7,11 +7,9 @@ ghost use Rattle.pg_msg.specs.Reading.{Gives, guarded, is_name, is_property_name
 
 use crate::fields::Unread;
 use crate::fields::numbers::{read_bytes, read_u8};
+use crate::limits::LONGEST_NAME;
 use pg_bytes::{Octets, Text, put_bytes, put_u8};
 use std::alloc::{AllocError, Global};
-
-// A name has at most so many bytes.
-const LONGEST_NAME: usize = 64;
 
 // What filters are made of, and no property is named.
 const RESERVED: [&str; 11] = [
@@ -111,7 +109,8 @@ fn is_property_name(name: &[u8]) -> bool
 
 // It has a length and a first byte that the name of a property may have.
 fn begins_property_name(name: &[u8]) -> bool
-    ensures { IsTrue result ↔ (IsBetween 1 64 (length name.now) × IsPropertyNameStart (slice_index name.now 0)) }
+    ensures { IsTrue result ↔ (IsBetween 1 LONGEST_NAME (length name.now)
+        × IsPropertyNameStart (slice_index name.now 0)) }
 {
     match name.first() {
         Some(first) => name.len() <= LONGEST_NAME && is_property_name_start(*first),

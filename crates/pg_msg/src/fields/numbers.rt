@@ -61,15 +61,3 @@ pub(super) fn read_positive_u32(bytes: &[u8]) -> Result<(u32, &[u8]), Unread>
     }
     Ok((number, rest))
 }
-
-/// The big-endian number in the first 8 bytes, which is at least 1.
-#[tactic(auto, unfolding(crate::specs::Reading::positive_at))]
-pub fn read_positive_u64(bytes: &[u8]) -> Result<(u64, &[u8]), Unread>
-    ensures { Gives (λ read. (read.0, read.1.now)) result (positive_at w64 bytes.now) }
-{
-    let (number, rest) = read_u64(bytes)?;
-    if number == 0 {
-        return Err(Unread::Malformed);
-    }
-    Ok((number, rest))
-}

@@ -9,12 +9,10 @@ ghost use Rattle.pg_msg.specs.Reading.{Gives, counted_at, are_distinct, text_at,
 use crate::fields::Unread;
 use crate::fields::names::{put_name, read_property_name, text_of};
 use crate::fields::numbers::{read_bytes, read_u8, read_u16, read_u64};
+use crate::limits::MOST_PROPERTIES;
 use crate::properties::{Properties, Property, Value};
 use pg_bytes::{Octets, Text, put_bytes, put_u8, put_u16, put_u64};
 use std::alloc::{AllocError, Global};
-
-// A message has at most so many properties.
-const MOST_PROPERTIES: u8 = 100;
 
 // The kinds of values.
 const TEXT: u8 = 1;
@@ -29,7 +27,7 @@ pub(super) fn read_properties(alloc: Global, bytes: &[u8]) -> Result<(Properties
     ensures { Gives (λ read. (read.0, read.1.now)) result (properties_at bytes.now) }
 {
     let (count, rest) = read_u8(bytes)?;
-    if MOST_PROPERTIES < count {
+    if MOST_PROPERTIES < usize::from(count) {
         return Err(Unread::Malformed);
     }
     let (properties, rest) = read_each(alloc, count, rest)?;

@@ -5,5 +5,5 @@ use Rattle.pg_fold.proofs.journaled.without.Goals as goal
 
 pub returns : goal.returns
 returns c =
-    c.from_vec.ensures ∙ filter_same _ (λ number. not (eqb number c.args.queue)) _ (λ x b f' k. search rules) _ _ c.retain.ensures.filtered
-    ∙ ap (without_number c.args.queue) c.into_vec-numbers.ensures
+    c.from_vec.ensures ∙ filter_same _ (λ id. not (eqb id c.args.queue)) _ (λ x b f' k. search rules) _ _ c.retain.ensures.filtered
+    ∙ ap (without_number c.args.queue) c.into_vec-ids.ensures

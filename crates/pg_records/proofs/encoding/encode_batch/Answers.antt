@@ -1,5 +1,5 @@
 use Rattle.std.proofs.Common.{arith}
-use Rattle.pg_records.proofs.Spelling.{spells_next, spells_all, next_fields}
+use Rattle.pg_records.proofs.BatchBytes.{spells_next, spells_all, next_fields}
 use Rattle.pg_records.proofs.encoding.encode_batch.Goals as goal
 
 pub put_entry-requires : goal.put_entry-requires
