@@ -2,26 +2,22 @@
 #![tactic(auto)]
 
 use pg_dir::{DirSite, InSource, Standard};
-use pg_run::pagebroker;
+use pg_run::{Status, pagebroker};
 use std::env;
 use std::io::{self, ErrorKind, Write};
 use std::process::ExitCode;
 
-const USAGE: u8 = 1;
-
-const OUT_OF_MEMORY: u8 = 6;
-
 fn main(rt: HostRuntime) -> ExitCode {
     let mut errors = Standard::new(rt.stderr());
-    let status = match run(&rt) {
-        Ok(status) => status,
-        Err(error) => status_of(&error),
+    let code = match run(&rt) {
+        Ok(code) => code,
+        Err(error) => status_of(&error).code(),
     };
-    if let Some(text) = text_of(status) {
+    if let Some(text) = Status::of_code(code).and_then(|status| status.text()) {
         // There is nowhere to tell of an error here.
         let _ = writeln!(errors, "{text}");
     }
-    ExitCode::from(status)
+    ExitCode::from(code)
 }
 
 fn run(rt: &HostRuntime) -> io::Result<u8> {
@@ -35,26 +31,9 @@ fn run(rt: &HostRuntime) -> io::Result<u8> {
 }
 
 // The status where the broker wasn't called: a word that isn't UTF-8 is none of those that it takes.
-fn status_of(error: &io::Error) -> u8 {
+fn status_of(error: &io::Error) -> Status {
     match error.kind() {
-        ErrorKind::InvalidData => USAGE,
-        _ => OUT_OF_MEMORY,
-    }
-}
-
-/// What is written to standard error at the end.
-fn text_of(status: u8) -> Option<&'static str> {
-    match status {
-        USAGE => Some("usage: pagebroker run, init, print or check DIR; soak DIR SEED N"),
-        2 => Some("damaged"),
-        3 => Some("disk fault"),
-        4 => Some("output fault"),
-        5 => Some("input fault"),
-        OUT_OF_MEMORY => Some("out of memory"),
-        7 => Some("input too long"),
-        8 => Some("limit reached"),
-        9 => Some("configuration refused"),
-        10 => Some("not fresh"),
-        _ => None,
+        ErrorKind::InvalidData => Status::Usage,
+        _ => Status::OutOfMemory,
     }
 }

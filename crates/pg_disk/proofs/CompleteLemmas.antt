@@ -1,6 +1,5 @@
 -- What a crash within a call leaves where the call is complete.
-use Rattle.std.proofs.Common.{◌≡◌, ℕ, Bool, true, false, cond, List, [], ◌∷◌, ◌++◌, Option, Some, None, Vec, refl, sym, ◌∙◌, subst, arith}
-use Rattle.std.specs.declared.alloc.Global.{Global}
+use Rattle.std.proofs.Common.{◌≡◌, ℕ, Bool, true, false, cond, List, [], ◌∷◌, ◌++◌, Option, Some, None, refl, sym, ◌∙◌, subst, arith}
 use Rattle.std.specs.Ordering.{eq_by_cmp}
 use Rattle.std.specs.FinMap.{get, get-insert}
 use Rattle.pg_disk.specs.declared.file_id.FileId.{FileId}
@@ -94,17 +93,3 @@ call_completed (event.Remove f done) = refl
 call_completed (event.Emit bytes done) = refl
 call_completed (event.Put f bytes) = refl
 call_completed (event.Told bytes) = refl
-
--- an event of another kind is complete as it is
-pub completed_same : (e : Event) → ((f : FileId) (at : ℕ) (bytes : Vec ℕ Global) (done : Bool) → e ≡ event.Write f at bytes done → ⊥) → ((f : FileId) (done : Bool) → e ≡ event.Create f done → ⊥)
-    → ((f : FileId) (done : Bool) → e ≡ event.Remove f done → ⊥) → completed e ≡ e
-completed_same event.List write create remove = refl
-completed_same (event.Length f) write create remove = refl
-completed_same (event.Read f count) write create remove = refl
-completed_same (event.Write f at bytes done) write create remove = absurd (write f at bytes done refl)
-completed_same (event.Sync f done) write create remove = refl
-completed_same (event.Create f done) write create remove = absurd (create f done refl)
-completed_same (event.Remove f done) write create remove = absurd (remove f done refl)
-completed_same (event.Emit bytes done) write create remove = refl
-completed_same (event.Put f bytes) write create remove = refl
-completed_same (event.Told bytes) write create remove = refl

@@ -128,12 +128,12 @@ changed_is f change step a s is does = subst (λ o. ChangesFile f (There step) a
   told = refl;
   taken = refl;
   others = λ q ne. get_beside a.files f q (change s) ne;
-  file = subst (λ o. There step o (get (insert a.files f (change s)) f)) (sym is) (subst (λ o. There step (Some s) o) (sym (get_inserted a.files f (change s))) does);
+  change = subst (λ o. There step o (get (insert a.files f (change s)) f)) (sym is) (subst (λ o. There step (Some s) o) (sym (get_inserted a.files f (change s))) does);
 })
 
 -- no change of a file
 pub same_file : (f : FileId) (S : Option FileState → Option FileState → Type 0) (a : Account) → S (get a.files f) (get a.files f) → ChangesFile f S a a
-same_file f S a none = record { told = refl; taken = refl; others = λ q ne. refl; file = none }
+same_file f S a none = record { told = refl; taken = refl; others = λ q ne. refl; change = none }
 
 pub there_same : (step : FileState → FileState → Type 0) (o : Option FileState) (s : FileState) → o ≡ Some s → step s s → There step o o
 there_same step o s is does = subst (λ u. There step u u) (sym is) does
@@ -178,13 +178,13 @@ leaves_synced es f ok c b left =
 
 -- a create
 pub created_is : (f : FileId) (ok : Bool) (a : Account) → ChangesFile f (Created ok) a (after_create f ok a)
-created_is f true a = record { told = refl; taken = refl; others = λ q ne. get_beside a.files f q fresh ne; file = inl (get_inserted a.files f fresh) }
-created_is f false a = record { told = refl; taken = refl; others = λ q ne. refl; file = inr (λ e. cc, refl) }
+created_is f true a = record { told = refl; taken = refl; others = λ q ne. get_beside a.files f q fresh ne; change = inl (get_inserted a.files f fresh) }
+created_is f false a = record { told = refl; taken = refl; others = λ q ne. refl; change = inr (λ e. cc, refl) }
 
-left_fresh : (left : Option (List ℕ)) → IsLeftAt (Some fresh) left → MayBeCreated left
-left_fresh None at = absurd at
-left_fresh (Some []) at = inr refl
-left_fresh (Some (x ∷ l)) at = absurd (omega (arith, at.no_longer))
+left_fresh : (was : Option FileState) (left : Option (List ℕ)) → IsLeftAt (Some fresh) left → MayBeCreated was left
+left_fresh was None at = absurd at
+left_fresh was (Some []) at = inr refl
+left_fresh was (Some (x ∷ l)) at = absurd (omega (arith, at.no_longer))
 
 left_none : (left : Option (List ℕ)) → IsLeftAt None left → left ≡ None
 left_none None at = refl
@@ -194,30 +194,30 @@ pub leaves_created : (es : List Event) (f : FileId) (ok : Bool) → get (replay 
 leaves_created es f true none c b left = record {
   honest = honest es;
   others = λ q ne. subst (λ u. IsLeftAt u (get c q)) (get_beside (replay start es).files f q fresh ne) (left.image q);
-  file = left_fresh (get c f) (subst (λ u. IsLeftAt u (get c f)) (get_inserted (replay start es).files f fresh) (left.image f));
+  left = left_fresh (get (replay start es).files f) (get c f) (subst (λ u. IsLeftAt u (get c f)) (get_inserted (replay start es).files f fresh) (left.image f));
   told = left.told;
 }
 leaves_created es f false none c b left = record {
   honest = honest es;
   others = λ q ne. left.image q;
-  file = inl (left_none (get c f) (subst (λ u. IsLeftAt u (get c f)) none (left.image f)));
+  left = inl (left_none (get c f) (subst (λ u. IsLeftAt u (get c f)) none (left.image f)));
   told = left.told;
 }
 
 -- a removal
 pub removed_is : (f : FileId) (ok : Bool) (a : Account) → ChangesFile f (Removed ok) a (after_remove f ok a)
-removed_is f true a = record { told = refl; taken = refl; others = λ q ne. get_kept a.files f q ne; file = inl (get_removed a.files f) }
-removed_is f false a = record { told = refl; taken = refl; others = λ q ne. refl; file = inr (λ e. cc, refl) }
+removed_is f true a = record { told = refl; taken = refl; others = λ q ne. get_kept a.files f q ne; change = inl (get_removed a.files f) }
+removed_is f false a = record { told = refl; taken = refl; others = λ q ne. refl; change = inr (λ e. cc, refl) }
 
 pub leaves_removed : (es : List Event) (f : FileId) (ok : Bool) (c : Files) (b : List ℕ) → Leaves (Some (after_remove f ok (replay start es))) c b
-    → LeavesAt f (MayBeRemoved (get (replay start es).files f)) (Some (replay start es)) c b
+    → LeavesAt f MayBeRemoved (Some (replay start es)) c b
 leaves_removed es f true c b left = record {
   honest = honest es;
   others = λ q ne. subst (λ u. IsLeftAt u (get c q)) (get_kept (replay start es).files f q ne) (left.image q);
-  file = inl (left_none (get c f) (subst (λ u. IsLeftAt u (get c f)) (get_removed (replay start es).files f) (left.image f)));
+  left = inl (left_none (get c f) (subst (λ u. IsLeftAt u (get c f)) (get_removed (replay start es).files f) (left.image f)));
   told = left.told;
 }
-leaves_removed es f false c b left = record { honest = honest es; others = λ q ne. left.image q; file = inr (left.image f); told = left.told }
+leaves_removed es f false c b left = record { honest = honest es; others = λ q ne. left.image q; left = inr (left.image f); told = left.told }
 
 -- a read
 pub reads_is : (count : ℕ) (a : Account) → Reads count a (after_read count a)

@@ -4,7 +4,7 @@ use Rattle.std.proofs.lemmas.List.{take-append-le, drop-append-le}
 use Rattle.pg_disk.specs.Files.{Files}
 use Rattle.pg_disk.specs.Account.{Account}
 use Rattle.pg_disk.specs.Image.{Leaves}
-use Rattle.pg_disk.specs.Moments.{Elapses}
+use Rattle.pg_disk.specs.Elapsing.{Elapses}
 use Rattle.pg_disk.specs.declared.call_record.Event.{Event}
 use Rattle.pg_disk.specs.Replay.{step, completed, replay, LeftIn, LeftSince, start}
 

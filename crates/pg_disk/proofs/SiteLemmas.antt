@@ -15,7 +15,7 @@ use Rattle.pg_disk.specs.Events.{call_of, is_emit}
 use Rattle.pg_disk.specs.Files.{Files}
 use Rattle.pg_disk.specs.Image.{Leaves}
 use Rattle.pg_disk.specs.MemSite.{events_of, account_of, short_of, calls_of, IsUntouched, KeepsContents, MadeCall, MadeEmit, FailsNextCall, FailsNextEmit, AnswersCall, AnswersEmit}
-use Rattle.pg_disk.specs.Moments.{Elapses}
+use Rattle.pg_disk.specs.Elapsing.{Elapses}
 use Rattle.pg_disk.specs.Recorded.{Recorded, Settled}
 use Rattle.pg_disk.specs.Replay.{start, replay, LeftSince, after_emit, if_done}
 use Rattle.pg_disk.proofs.Effects.{honest}
@@ -63,7 +63,7 @@ err_ok x v e = cc
 
 -- the three ways in which a call is answered
 pub by_cases : {T : Type 0} (R : T → Type 0) (Same : Type 0) (outcome : Result T AllocError) (done : Bool) (f g s t : ℕ) (result : Result T Failed) (P : Result T Failed → Type 0)
-    → MatchResult outcome R (λ _. Same) → Settled outcome done f g s t result
+    → MatchResult outcome R (λ _. Same) → Settled outcome done (f, s) (g, t) result
     → ((v : T) → done ≡ true → R v → outcome ≡ Ok v → t ≡ s → P (Ok v)) → ((v : T) (e : Failed) → done ≡ false → R v → outcome ≡ Ok v → t ≡ s → P (Err e)) → ((e : Failed) → Same → Rose s t → P (Err e)) → P result
 by_cases R Same (Ok x) done f g s t (Ok v) P recorded settled ok failed short = ok v settled.1 (subst R (same_ok x v settled.0) recorded) settled.0 settled.3
 by_cases R Same (Err x) done f g s t (Ok v) P recorded settled ok failed short = err_ok x v settled.0
@@ -74,7 +74,7 @@ by_cases {T} R Same (Err x) done f g s t (Err e) P recorded settled ok failed sh
 
 -- a call whose change goes by whether it is done
 module _ {T : Type 0} (old new : List Event) (call : Option CallKind) (emit : Bool) (change : Bool → Account → Account) (outcome : Result T AllocError) (done : Bool) (f g s t : ℕ) (result : Result T Failed)
-    (recorded : MatchResult outcome (λ _. Recorded old new call emit (change done)) (λ _. new ≡ old)) (settled : Settled outcome done f g s t result) where
+    (recorded : MatchResult outcome (λ _. Recorded old new call emit (change done)) (λ _. new ≡ old)) (settled : Settled outcome done (f, s) (g, t) result) where
   abbrev At : Bool → Type 0
   At b = Recorded old new call emit (change b)
 
@@ -123,7 +123,7 @@ module _ (old new : MemSite) where
   }
 
   pub answers_call : {T : Type 0} (call : CallKind) (change : T → Account → Account) (outcome : Result T AllocError) (done : Bool) (f g : ℕ) (result : Result T Failed)
-      → MatchResult outcome (λ v. Recorded (events_of old) (events_of new) (Some call) false (change v)) (λ _. events_of new ≡ events_of old) → Settled outcome done f g (short_of old) (short_of new) result
+      → MatchResult outcome (λ v. Recorded (events_of old) (events_of new) (Some call) false (change v)) (λ _. events_of new ≡ events_of old) → Settled outcome done (f, short_of old) (g, short_of new) result
       → MatchBool done (FailsNextCall old → ⊥) (FailsNextCall old)
       → ((v : T) → done ≡ false → outcome ≡ Ok v → (q : FileId) → content_at (change v (account_of old)).files q ≡ content_at (account_of old).files q)
       → ((v : T) → done ≡ false → outcome ≡ Ok v → (change v (account_of old)).told ≡ (account_of old).told)
@@ -139,7 +139,7 @@ module _ (old new : MemSite) where
       (λ e same rose. inr (record { untouched = untouched same; short = rose }))
 
   pub answers_emit : (piece : List ℕ) (outcome : Result (Unit {0}) AllocError) (done : Bool) (f g : ℕ) (result : Result (Unit {0}) Failed)
-      → MatchResult outcome (λ _. Recorded (events_of old) (events_of new) None true (after_emit piece done)) (λ _. events_of new ≡ events_of old) → Settled outcome done f g (short_of old) (short_of new) result
+      → MatchResult outcome (λ _. Recorded (events_of old) (events_of new) None true (after_emit piece done)) (λ _. events_of new ≡ events_of old) → Settled outcome done (f, short_of old) (g, short_of new) result
       → MatchBool done (FailsNextEmit old → ⊥) (FailsNextEmit old) → AnswersEmit old new result
   answers_emit piece outcome done f g result recorded settled named =
       by_cases (λ (v : Unit {0}). Recorded (events_of old) (events_of new) None true (after_emit piece done)) (events_of new ≡ events_of old) outcome done f g (short_of old) (short_of new) result (AnswersEmit old new) recorded settled

@@ -38,3 +38,12 @@ pub record IsQuiet (s : FileState) : Type 0 where
   pub synced : s.synced ≡ length s.bytes
   pub greatest : s.greatest ≡ length s.bytes
   pub ranges : s.ranges ≡ []
+
+-- the same of a file that may not be there
+abbrev pub IsQuietAt : Option FileState → Type 0
+IsQuietAt None = Unit {0}
+IsQuietAt (Some s) = IsQuiet s
+
+-- nothing of any file is pending
+abbrev pub AllQuiet : FinMap file_cmp FileState → Type 0
+AllQuiet files = (file : FileId) → IsQuietAt (get files file)

@@ -1,9 +1,10 @@
 -- What each call does to what a site tells.
-use Rattle.std.specs.Prelude.{◌≡◌, ◌≢◌, ◌⊎◌, ◌≤◌, ◌<◌, ◌+◌, ◌-◌, min, max, ℕ, Bool, List, [], ◌++◌, length, take, drop, slice_index, Option, Some, None, IsTrue}
-use Rattle.std.specs.FinMap.{get}
+use Rattle.std.specs.Prelude.{◌≡◌, ◌⊎◌, ◌≤◌, ◌<◌, ◌+◌, ◌-◌, min, max, ℕ, Bool, List, [], ◌++◌, length, take, drop, slice_index, Option, Some, None, IsTrue}
+use Rattle.std.specs.FinMap.{FinMap, get}
 use Rattle.pg_disk.specs.declared.file_id.FileId.{FileId}
-use Rattle.pg_disk.specs.Account.{FileState, Account, account, IsHonest}
-use Rattle.pg_disk.specs.Image.{IsIn}
+use Rattle.pg_disk.specs.Account.{FileState, Account, account, IsHonest, IsQuiet}
+use Rattle.pg_disk.specs.Files.{file_cmp}
+use Rattle.pg_disk.specs.Image.{IsIn, Only}
 
 -- honesty is kept in both directions, and an honest site changes so
 pub record Changes (old new : Option Account) (changes : Account → Account → Type 0) : Type 0 where
@@ -17,17 +18,57 @@ pub record Reads (count : ℕ) (old new : Account) : Type 0 where
   pub told : new.told ≡ old.told
   pub taken : new.taken ≡ old.taken + count
 
--- one file changes so, and nothing else
-pub record ChangesFile (id : FileId) (changes : Option FileState → Option FileState → Type 0) (old new : Account) : Type 0 where
+-- files and told bytes stay, and bytes may have been read
+pub record OnlyReads (old new : Account) : Type 0 where
+  pub files : new.files ≡ old.files
   pub told : new.told ≡ old.told
-  pub taken : new.taken ≡ old.taken
-  pub others : (f : FileId) → f ≢ id → get new.files f ≡ get old.files f
-  pub file : changes (get old.files id) (get new.files id)
+  pub taken : old.taken ≤ new.taken
+
+-- how many bytes are read: none, and some
+abbrev pub ReadsNone : ℕ → ℕ → Type 0
+ReadsNone old new = new ≡ old
+
+abbrev pub ReadsSome : ℕ → ℕ → Type 0
+ReadsSome old new = old ≤ new
+
+-- The own files change so, and every other file stays. Nothing is told, and so many bytes are read.
+pub record ChangesWhere (own : FileId → Type 0) (reads : ℕ → ℕ → Type 0)
+    (R : FinMap file_cmp FileState → FinMap file_cmp FileState → Type 0) (old new : Account) : Type 0 where
+  pub told : new.told ≡ old.told
+  pub taken : reads old.taken new.taken
+  pub others : (f : FileId) → (own f → ⊥) → get new.files f ≡ get old.files f
+  pub change : R old.files new.files
+
+-- one file changes so, and nothing else
+abbrev pub ChangesFile : FileId → (Option FileState → Option FileState → Type 0) → Account → Account → Type 0
+ChangesFile id R = ChangesWhere (Only id) ReadsNone (λ files now. R (get files id) (get now id))
+
+-- a file isn't there still, or nothing of it is pending any more and it has the bytes that it had
+abbrev pub IsSettled : Option FileState → Option FileState → Type 0
+IsSettled None t = t ≡ None
+IsSettled (Some s) None = ⊥
+IsSettled (Some s) (Some t) = IsQuiet t × (t.bytes ≡ s.bytes)
+
+-- nothing of the own files is pending any more, and all else is as it was
+abbrev pub Settles : (FileId → Type 0) → Account → Account → Type 0
+Settles own = ChangesWhere own ReadsNone (λ files now. (f : FileId) → own f → IsSettled (get files f) (get now f))
 
 -- the file has these bytes at this offset
 pub record Holds (file : List ℕ) (at : ℕ) (bytes : List ℕ) : Type 0 where
   pub within : at + length bytes ≤ length file
   pub each : (i : ℕ) → i < length bytes → slice_index file (at + i) ≡ slice_index bytes i
+
+-- only bytes from lo up to hi are other ones, and the file is no longer than it was, or than hi
+pub record Touches (lo hi : ℕ) (old new : List ℕ) : Type 0 where
+  pub outside : (i : ℕ) → i < length old → (i < lo) ⊎ (hi ≤ i) → slice_index new i ≡ slice_index old i
+  pub no_shorter : length old ≤ length new
+  pub no_longer : length new ≤ max (length old) hi
+
+-- the same of a file, which is there still if it was
+abbrev pub Rewrites : ℕ → ℕ → Option FileState → Option FileState → Type 0
+Rewrites lo hi None t = t ≡ None
+Rewrites lo hi (Some s) None = ⊥
+Rewrites lo hi (Some s) (Some t) = Touches lo hi s.bytes t.bytes
 
 -- after a write of these bytes at this offset: at Err the range may hold anything
 pub record Wrote (at : ℕ) (bytes : List ℕ) (ok : Bool) (a b : FileState) : Type 0 where
@@ -36,7 +77,8 @@ pub record Wrote (at : ℕ) (bytes : List ℕ) (ok : Bool) (a b : FileState) : T
   pub ranges : (i : ℕ) → IsIn b.ranges i → IsIn a.ranges i ⊎ ((at ≤ i) × (i < at + length bytes))
   pub no_shorter : length a.bytes ≤ length b.bytes
   pub no_longer : length b.bytes ≤ max (length a.bytes) (at + length bytes)
-  pub outside : (i : ℕ) → i < length a.bytes → (i < at) ⊎ (at + length bytes ≤ i) → slice_index b.bytes i ≡ slice_index a.bytes i
+  pub outside : (i : ℕ) → i < length a.bytes → (i < at) ⊎ (at + length bytes ≤ i)
+      → slice_index b.bytes i ≡ slice_index a.bytes i
   pub written : IsTrue ok → Holds b.bytes at bytes
 
 -- after a sync

@@ -47,5 +47,6 @@ pub record LeftWithin (es : List Event) (number : ℕ) (pick : Pick) (new : Acco
   pub call : IsCallAt es number place event
   pub told : new.told ≡ (replay start (take place es)).told
   pub contents : (f : FileId) → content_at new.files f ≡ content_at (left_at pick es event place).files f
-  pub left : Leaves (Some (replay start (take place es))) (reads new.files) new.told ⊎ Leaves (Some (step (completed event) (replay start (take place es)))) (reads new.files) new.told
+  pub left : Leaves (Some (replay start (take place es))) (reads new.files) new.told
+      ⊎ Leaves (Some (step (completed event) (replay start (take place es)))) (reads new.files) new.told
   pub since : LeftSince es place (reads new.files) new.told

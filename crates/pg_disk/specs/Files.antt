@@ -15,7 +15,9 @@ rank Large = 2
 
 -- by kind, owner and number
 abbrev pub file_cmp : FileId → FileId → Ordering
-file_cmp a b = ordering_then (nat_cmp (rank a.kind) (rank b.kind)) (ordering_then (nat_cmp a.owner b.owner) (nat_cmp a.number b.number))
+file_cmp a b =
+    ordering_then (nat_cmp (rank a.kind) (rank b.kind))
+    (ordering_then (nat_cmp a.owner b.owner) (nat_cmp a.number b.number))
 
 -- what a directory has in it
 abbrev pub Files : Type 0

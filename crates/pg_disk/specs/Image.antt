@@ -3,7 +3,7 @@ use Rattle.std.specs.Prelude.{◌≡◌, ◌≢◌, ◌⊎◌, ◌≤◌, ◌<�
 use Rattle.std.specs.FinMap.{FinMap, get}
 use Rattle.pg_disk.specs.declared.file_id.FileId.{FileId}
 use Rattle.pg_disk.specs.Files.{file_cmp, Files}
-use Rattle.pg_disk.specs.Account.{FileState, Account, account, IsHonest}
+use Rattle.pg_disk.specs.Account.{AllQuiet, FileState, Account, account, IsHonest}
 
 -- the place is in one of the ranges
 abbrev pub IsIn : List (ℕ × ℕ) → ℕ → Type 0
@@ -37,19 +37,40 @@ pub record Leaves (tells : Option Account) (c : Files) (b : List ℕ) : Type 0 w
   pub image : IsImage (account tells).files c
   pub told : b ≡ (account tells).told
 
--- the same, where of one file something else may be left
-pub record LeavesAt (id : FileId) (P : Option (List ℕ) → Type 0) (tells : Option Account) (c : Files) (b : List ℕ) : Type 0 where
+-- What has P, or what a crash at entry may leave, with nothing more told. Where nothing was pending at entry, what has
+-- P.
+pub record OnceQuiet (P : Option Account → Files → List ℕ → Type 0) (tells : Option Account) (c : Files)
+    (b : List ℕ) : Type 0 where
+  pub either : Leaves tells c b ⊎ P tells c b
+  pub quiet : AllQuiet (account tells).files → P tells c b
+
+-- The own files may be left as P says of all files at entry and of what is left. Every other file is as a crash may
+-- leave it, and nothing more is told.
+pub record LeavesBeside (own : FileId → Type 0) (P : FinMap file_cmp FileState → Files → Type 0)
+    (tells : Option Account) (c : Files) (b : List ℕ) : Type 0 where
   pub honest : IsHonest tells
-  pub others : OthersLeft id (account tells).files c
-  pub file : P (get c id)
+  pub others : (f : FileId) → (own f → ⊥) → IsLeftAt (get (account tells).files f) (get c f)
+  pub left : P (account tells).files c
   pub told : b ≡ (account tells).told
+
+-- this one file
+abbrev pub Only : FileId → FileId → Type 0
+Only id f = f ≡ id
+
+-- whichever file it is
+abbrev pub AnyFile : FileId → Type 0
+AnyFile file = Unit {0}
+
+-- the same of one file, by its state at entry and what is left of it
+abbrev pub LeavesAt : FileId → (Option FileState → Option (List ℕ) → Type 0) → Option Account → Files → List ℕ → Type 0
+LeavesAt id P = LeavesBeside (Only id) (λ files c. P (get files id) (get c id))
 
 abbrev pub IsFileThere : FileId → FinMap file_cmp FileState → Type 0
 IsFileThere file files = (s : FileState) × (get files file ≡ Some s)
 
 -- it isn't there, or it is there and empty
-abbrev pub MayBeCreated : Option (List ℕ) → Type 0
-MayBeCreated left = (left ≡ None) ⊎ (left ≡ Some [])
+abbrev pub MayBeCreated : Option FileState → Option (List ℕ) → Type 0
+MayBeCreated was left = (left ≡ None) ⊎ (left ≡ Some [])
 
 -- it isn't there, or as before
 abbrev pub MayBeRemoved : Option FileState → Option (List ℕ) → Type 0

@@ -45,7 +45,8 @@ counts_as_done New e = true
 counts_as_done (Fill b) (Sync f done) = false
 counts_as_done (Fill b) e = true
 
--- what has happened of the event that is stopped: nothing, or all that the call was to do, also where it was named to fail
+-- what has happened of the event that is stopped: nothing, or all that the call was to do, also where it was named to
+-- fail
 abbrev pub last_done : Pick → Event → Seq Event
 last_done pick e = if counts_as_done pick e then completed e ∷ [] else []
 

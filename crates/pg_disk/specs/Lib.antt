@@ -3,10 +3,12 @@ pub mod Calls
 pub mod Contents
 pub mod Counts
 pub mod Crash
-pub mod Left
+pub mod Elapsing
 pub mod Events
 pub mod Files
 pub mod Image
+pub mod Left
+pub mod Meanings
 pub mod MemSite
 pub mod MemSource
 pub mod MemoryState
@@ -15,3 +17,6 @@ pub mod Reads
 pub mod Recorded
 pub mod Replay
 pub mod ReplayLaws
+pub mod Sites
+pub mod Sources
+pub mod Views

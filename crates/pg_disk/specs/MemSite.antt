@@ -117,4 +117,5 @@ ListingAnswers listing.Failed old new = FailedByNumber (FailsNextCall old) (Made
 ListingAnswers listing.Memory old new = IsUntouched old new × (short_of new ≡ short_of old)
 
 abbrev pub AnswersListing : {T : Type 0} → MemSite → MemSite → Result T ListError → Type 0
-AnswersListing old new result = MatchResult result (λ _. MadeCall kind.List old new × (FailsNextCall old → ⊥)) (λ e. ListingAnswers e old new)
+AnswersListing old new result =
+    MatchResult result (λ _. MadeCall kind.List old new × (FailsNextCall old → ⊥)) (λ e. ListingAnswers e old new)

@@ -90,7 +90,8 @@ step (Emit bytes done) a = after_emit bytes.items done a
 step (Put f bytes) a = after_put f bytes.items a
 step (Told bytes) a = after_told bytes.items a
 
--- the event as it is where the call is complete. A create, a removal and a write that failed may have been done all the same
+-- the event as it is where the call is complete. A create, a removal and a write that failed may have been done all the
+-- same
 abbrev pub completed : Event → Event
 completed (Write f at bytes done) = Write f at bytes true
 completed (Create f done) = Create f true

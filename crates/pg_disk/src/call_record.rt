@@ -62,7 +62,15 @@ impl Event {
     {
         match self {
             Event::Emit(_, _) => 1,
-            _ => 0,
+            Event::List
+            | Event::Length(_)
+            | Event::Read(_, _)
+            | Event::Write(_, _, _, _)
+            | Event::Sync(_, _)
+            | Event::Create(_, _)
+            | Event::Remove(_, _)
+            | Event::Put(_, _)
+            | Event::Told(_) => 0,
         }
     }
 }

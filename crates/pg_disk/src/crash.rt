@@ -84,7 +84,8 @@ impl Remains {
 
     // Does once more what the event was to do, also where it failed.
     fn complete(&mut self, event: &Event, pick: Pick) -> Result<(), AllocError>
-        ensures { OnOk result (Redoes (step (completed event.now)) (left_after pick (completed event.now)) self.old self.new) }
+        ensures { OnOk result (Redoes (step (completed event.now))
+            (left_after pick (completed event.now)) self.old self.new) }
     {
         match event {
             Event::Write(file, at, bytes, _) => self.write(*file, *at, bytes, true, pick),
@@ -93,7 +94,13 @@ impl Remains {
                 self.remove(*file, true);
                 Ok(())
             }
-            _ => self.redo(event, pick),
+            Event::List
+            | Event::Length(_)
+            | Event::Read(_, _)
+            | Event::Sync(_, _)
+            | Event::Emit(_, _)
+            | Event::Put(_, _)
+            | Event::Told(_) => self.redo(event, pick),
         }
     }
 
@@ -105,7 +112,8 @@ impl Remains {
         done: bool,
         pick: Pick,
     ) -> Result<(), AllocError>
-        ensures { OnOk result (Redoes (after_write file at bytes.now done) (λ a. left_of_write pick file at bytes.now done) self.old self.new) }
+        ensures { OnOk result (Redoes (after_write file at bytes.now done)
+            (λ a. left_of_write pick file at bytes.now done) self.old self.new) }
     {
         overwrite_within(&mut self.read, file, at, bytes, done)?;
         match pick {
@@ -119,7 +127,8 @@ impl Remains {
     }
 
     fn sync(&mut self, file: FileId, done: bool) -> Result<(), AllocError>
-        ensures { OnOk result (Redoes (after_sync file done) (λ a l. if_done done (left_as_read file (get a.files file) l) l) self.old self.new) }
+        ensures { OnOk result (Redoes (after_sync file done)
+            (λ a l. if_done done (left_as_read file (get a.files file) l) l) self.old self.new) }
     {
         if !done {
             return Ok(());
@@ -233,7 +242,8 @@ fn counts_as_done(pick: Pick, event: &Event) -> bool
 }
 
 fn redone(alloc: Global, events: &[Event], pick: Pick) -> Result<Remains, AllocError>
-    ensures { IfOk result (λ remains. Follows remains (replay start events.now) (left_replay pick start start events.now)) }
+    ensures { IfOk result (λ remains. Follows remains (replay start events.now)
+        (left_replay pick start start events.now)) }
 {
     let mut remains = Remains::new(alloc);
     for event in events {

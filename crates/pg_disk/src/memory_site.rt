@@ -8,7 +8,7 @@ ghost use Rattle.pg_disk.specs.Contents.{content_at};
 ghost use Rattle.pg_disk.specs.Counts.{CountsDisk, CountsListing, CountsOutput};
 ghost use Rattle.pg_disk.specs.Image.{Leaves, LeavesAt, LeavesPrefix, IsFileThere, MayBeCreated, MayBeRemoved};
 ghost use Rattle.pg_disk.specs.MemSite.{calls_of};
-ghost use Rattle.pg_disk.specs.Moments.{Elapses};
+ghost use Rattle.pg_disk.specs.Elapsing.{Elapses};
 ghost use Rattle.pg_disk.specs.Recorded.{Settled};
 
 use crate::call_record::CallKind;
@@ -145,10 +145,10 @@ impl MemSite {
         self.short
     }
 
-    /// The site as it is left where it stops within the call of this number, counted from 1: with nothing pending, no call
-    /// or emit made, and nothing named to fail. The pick says what became of the bytes that were pending, those of a write
-    /// that is stopped among them. A create or a removal that is stopped has happened, but for `Pick::Old`, also where
-    /// it was named to fail. A sync that is stopped has ended nothing.
+    /// The site as it is left where it stops within the call of this number, counted from 1: with nothing pending, no
+    /// call or emit made, and nothing named to fail. The pick says what became of the bytes that were pending, those of
+    /// a write that is stopped among them. A create or a removal that is stopped has happened, but for `Pick::Old`,
+    /// also where it was named to fail. A sync that is stopped has ended nothing.
     pub fn crash(&self, stop: u64, pick: Pick) -> Result<MemSite, AllocError>
         requires from_one { 0 < stop }
         requires made { stop ≤ length (calls_of self.now) }
@@ -199,7 +199,7 @@ fn settle<T: Drop>(
     outcome: Result<T, AllocError>,
     done: bool,
 ) -> Result<T, Failed>
-    ensures { Settled outcome done faults.old faults.new short.old short.new result }
+    ensures { Settled outcome done (faults.old, short.old) (faults.new, short.new) result }
 {
     match outcome {
         Ok(value) if done => return Ok(value),
@@ -227,9 +227,11 @@ impl Disk for MemSite {
     ghost only_now = { λ m c b left. only (events_of m) c b left };
 
     fn list(&mut self, alloc: Global) -> Result<Vec<FileId>, ListError>
-        ensures files { IfOk result (λ ids. IsHonest (tells_of self.old) → ids.items ≡ keys (account (tells_of self.old)).files) }
+        ensures files { IfOk result (λ ids. IsHonest (tells_of self.old)
+            → ids.items ≡ keys (account (tells_of self.old)).files) }
         ensures same { Changes (tells_of self.old) (tells_of self.new) (Reads 0) }
-        ensures time { Elapses (moment_of self.old) (moment_of self.new) (left_since_of self.old) (left_since_of self.new) (Leaves (tells_of self.old)) }
+        ensures time { Elapses (moment_of self.old) (moment_of self.new) (left_since_of self.old)
+            (left_since_of self.new) (Leaves (tells_of self.old)) }
         ensures cause { CountsListing (faults_of self.old) (faults_of self.new) result }
         ensures answer { AnswersListing self.old self.new result }
         ensures names { KeepsNames self.old self.new }
@@ -247,9 +249,11 @@ impl Disk for MemSite {
 
     fn length(&mut self, file: FileId) -> Result<u64, Failed>
         requires { IsHonest (tells_of self.old) → IsFileThere file (account (tells_of self.old)).files }
-        ensures length { IfOk result (λ n. IsHonest (tells_of self.old) → (s : _) → get (account (tells_of self.old)).files file ≡ Some s → n ≡ length s.bytes) }
+        ensures length { IfOk result (λ n. IsHonest (tells_of self.old) → (s : _)
+            → get (account (tells_of self.old)).files file ≡ Some s → n ≡ length s.bytes) }
         ensures same { Changes (tells_of self.old) (tells_of self.new) (Reads 0) }
-        ensures time { Elapses (moment_of self.old) (moment_of self.new) (left_since_of self.old) (left_since_of self.new) (Leaves (tells_of self.old)) }
+        ensures time { Elapses (moment_of self.old) (moment_of self.new) (left_since_of self.old)
+            (left_since_of self.new) (Leaves (tells_of self.old)) }
         ensures cause { CountsDisk (faults_of self.old) (faults_of self.new) result }
         ensures answer { AnswersCall (CallKind.Length file) self.old self.new result }
         ensures names { KeepsNames self.old self.new }
@@ -262,11 +266,13 @@ impl Disk for MemSite {
     fn read(&mut self, file: FileId, at: u64, buf: &mut [u8]) -> Result<usize, Failed>
         requires { IsHonest (tells_of self.old) → IsFileThere file (account (tells_of self.old)).files }
         ensures count { IfOk result (λ n. n ≤ length buf.old) }
-        ensures bytes { IfOk result (λ n. IsHonest (tells_of self.old) → (s : _) → get (account (tells_of self.old)).files file ≡ Some s →
+        ensures bytes { IfOk result (λ n. IsHonest (tells_of self.old) → (s : _)
+            → get (account (tells_of self.old)).files file ≡ Some s →
             ReadsAt at n s.bytes buf.old buf.new) }
         ensures same { IfOk result (λ n. Changes (tells_of self.old) (tells_of self.new) (Reads n)) }
         ensures same_err { OnErr result (Changes (tells_of self.old) (tells_of self.new) (Reads 0)) }
-        ensures time { Elapses (moment_of self.old) (moment_of self.new) (left_since_of self.old) (left_since_of self.new) (Leaves (tells_of self.old)) }
+        ensures time { Elapses (moment_of self.old) (moment_of self.new) (left_since_of self.old)
+            (left_since_of self.new) (Leaves (tells_of self.old)) }
         ensures cause { CountsDisk (faults_of self.old) (faults_of self.new) result }
         ensures answer { AnswersCall (CallKind.Read file) self.old self.new result }
         ensures names { KeepsNames self.old self.new }
@@ -277,9 +283,12 @@ impl Disk for MemSite {
     }
 
     fn write(&mut self, file: FileId, at: u64, bytes: &[u8]) -> Result<(), Failed>
-        requires { IsHonest (tells_of self.old) → (s : _) × (get (account (tells_of self.old)).files file ≡ Some s) × (at ≤ length s.bytes) }
-        ensures step { Changes (tells_of self.old) (tells_of self.new) (ChangesFile file (There (Wrote at bytes.now (is_ok result)))) }
-        ensures time { Elapses (moment_of self.old) (moment_of self.new) (left_since_of self.old) (left_since_of self.new) (Leaves (tells_of self.new)) }
+        requires { IsHonest (tells_of self.old) → (s : _) × (get (account (tells_of self.old)).files file ≡ Some s)
+            × (at ≤ length s.bytes) }
+        ensures step { Changes (tells_of self.old) (tells_of self.new)
+            (ChangesFile file (There (Wrote at bytes.now (is_ok result)))) }
+        ensures time { Elapses (moment_of self.old) (moment_of self.new) (left_since_of self.old)
+            (left_since_of self.new) (Leaves (tells_of self.new)) }
         ensures cause { CountsDisk (faults_of self.old) (faults_of self.new) result }
         ensures answer { AnswersCall (CallKind.Write file) self.old self.new result }
         ensures names { KeepsNames self.old self.new }
@@ -291,8 +300,10 @@ impl Disk for MemSite {
 
     fn sync(&mut self, file: FileId) -> Result<(), Failed>
         requires { IsHonest (tells_of self.old) → IsFileThere file (account (tells_of self.old)).files }
-        ensures step { Changes (tells_of self.old) (tells_of self.new) (ChangesFile file (There (Synced (is_ok result)))) }
-        ensures time { Elapses (moment_of self.old) (moment_of self.new) (left_since_of self.old) (left_since_of self.new) (Leaves (tells_of self.old)) }
+        ensures step { Changes (tells_of self.old) (tells_of self.new)
+            (ChangesFile file (There (Synced (is_ok result)))) }
+        ensures time { Elapses (moment_of self.old) (moment_of self.new) (left_since_of self.old)
+            (left_since_of self.new) (Leaves (tells_of self.old)) }
         ensures cause { CountsDisk (faults_of self.old) (faults_of self.new) result }
         ensures answer { AnswersCall (CallKind.Sync file) self.old self.new result }
         ensures names { KeepsNames self.old self.new }
@@ -305,7 +316,8 @@ impl Disk for MemSite {
     fn create(&mut self, file: FileId) -> Result<(), Failed>
         requires { IsHonest (tells_of self.old) → get (account (tells_of self.old)).files file ≡ None }
         ensures step { Changes (tells_of self.old) (tells_of self.new) (ChangesFile file (Created (is_ok result))) }
-        ensures time { Elapses (moment_of self.old) (moment_of self.new) (left_since_of self.old) (left_since_of self.new) (LeavesAt file MayBeCreated (tells_of self.old)) }
+        ensures time { Elapses (moment_of self.old) (moment_of self.new) (left_since_of self.old)
+            (left_since_of self.new) (LeavesAt file MayBeCreated (tells_of self.old)) }
         ensures cause { CountsDisk (faults_of self.old) (faults_of self.new) result }
         ensures answer { AnswersCall (CallKind.Create file) self.old self.new result }
         ensures names { KeepsNames self.old self.new }
@@ -318,8 +330,9 @@ impl Disk for MemSite {
     fn remove(&mut self, file: FileId) -> Result<(), Failed>
         requires { IsHonest (tells_of self.old) → IsFileThere file (account (tells_of self.old)).files }
         ensures step { Changes (tells_of self.old) (tells_of self.new) (ChangesFile file (Removed (is_ok result))) }
-        ensures time { Elapses (moment_of self.old) (moment_of self.new) (left_since_of self.old) (left_since_of self.new)
-            (LeavesAt file (MayBeRemoved (get (account (tells_of self.old)).files file)) (tells_of self.old)) }
+        ensures time { Elapses (moment_of self.old) (moment_of self.new) (left_since_of self.old)
+            (left_since_of self.new)
+            (LeavesAt file MayBeRemoved (tells_of self.old)) }
         ensures cause { CountsDisk (faults_of self.old) (faults_of self.new) result }
         ensures answer { AnswersCall (CallKind.Remove file) self.old self.new result }
         ensures names { KeepsNames self.old self.new }
@@ -335,7 +348,8 @@ impl Site for MemSite {
 
     fn emit(&mut self, bytes: &[u8]) -> Result<(), Failed>
         ensures step { Changes (tells_of self.old) (tells_of self.new) (Emits bytes.now (is_ok result)) }
-        ensures time { Elapses (moment_of self.old) (moment_of self.new) (left_since_of self.old) (left_since_of self.new)
+        ensures time { Elapses (moment_of self.old) (moment_of self.new) (left_since_of self.old)
+            (left_since_of self.new)
             (LeavesPrefix bytes.now (tells_of self.old)) }
         ensures cause { CountsOutput (faults_of self.old) (faults_of self.new) result }
         ensures answer { AnswersEmit self.old self.new result }

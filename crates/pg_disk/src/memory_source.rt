@@ -72,7 +72,8 @@ impl Source for MemSource {
         ensures count { IfOk result (λ n. n ≤ length buf.old) }
         ensures bytes { IfOk result (λ n. TakesFrom (rest_told self.old) (rest_told self.new) (take n buf.new)) }
         ensures behind { IfOk result (λ n. drop n buf.new ≡ drop n buf.old) }
-        ensures at_end { IfOk result (λ n. n ≡ 0 → (length buf.old ≡ 0 → ⊥) → (xs : _) → rest_told self.old ≡ Some xs → xs ≡ []) }
+        ensures at_end { IfOk result (λ n. n ≡ 0 → (length buf.old ≡ 0 → ⊥) → (xs : _) → rest_told self.old ≡ Some xs
+            → xs ≡ []) }
         ensures err { OnErr result (rest_told self.new ≡ rest_told self.old) }
         ensures cause { CountsSource (faults_of self.old) (faults_of self.new) result }
         ensures fills { IfOk result (λ n. n ≡ min (length buf.old) (length (rest_of self.old))) }

@@ -84,8 +84,10 @@ impl MemoryState {
     }
 
     pub fn length(&mut self, file: FileId) -> Result<u64, AllocError>
-        ensures length { IfOk result (λ n. (s : _) → get (account_of self.old).files file ≡ Some s → n ≡ length s.bytes) }
-        ensures recorded { RecordsCall (events_of self.old) (events_of self.new) (CallKind.Length file) unchanged result }
+        ensures length { IfOk result (λ n. (s : _) → get (account_of self.old).files file ≡ Some s
+            → n ≡ length s.bytes) }
+        ensures recorded { RecordsCall (events_of self.old) (events_of self.new)
+            (CallKind.Length file) unchanged result }
     {
         let length = match self.content(file) {
             Some(content) => content.len(),
@@ -118,7 +120,8 @@ impl MemoryState {
     // Fills the buffer with the file's content from `at` on, and answers the count.
     fn fill(&self, file: FileId, at: u64, buf: &mut [u8]) -> usize
         ensures count { result ≤ length buf.old }
-        ensures bytes { (s : _) → get (account_of self.now).files file ≡ Some s → ReadsAt at result s.bytes buf.old buf.new }
+        ensures bytes { (s : _) → get (account_of self.now).files file ≡ Some s
+            → ReadsAt at result s.bytes buf.old buf.new }
     {
         match self.content(file) {
             Some(content) => copy_at(content, at, buf),
@@ -134,7 +137,8 @@ impl MemoryState {
         done: bool,
     ) -> Result<(), AllocError>
         requires { (s : _) × (get (account_of self.old).files file ≡ Some s) × (at ≤ length s.bytes) }
-        ensures { RecordsCall (events_of self.old) (events_of self.new) (CallKind.Write file) (after_write file at bytes.now done) result }
+        ensures { RecordsCall (events_of self.old) (events_of self.new) (CallKind.Write file)
+            (after_write file at bytes.now done) result }
     {
         let copy = Vec::from_slice(self.alloc, bytes)?;
         self.history.reserve()?;
@@ -144,13 +148,15 @@ impl MemoryState {
     }
 
     pub fn sync(&mut self, file: FileId, done: bool) -> Result<(), AllocError>
-        ensures { RecordsCall (events_of self.old) (events_of self.new) (CallKind.Sync file) (after_sync file done) result }
+        ensures { RecordsCall (events_of self.old) (events_of self.new) (CallKind.Sync file)
+            (after_sync file done) result }
     {
         self.history.push(Event::Sync(file, done))
     }
 
     pub fn create(&mut self, file: FileId, done: bool) -> Result<(), AllocError>
-        ensures { RecordsCall (events_of self.old) (events_of self.new) (CallKind.Create file) (after_create file done) result }
+        ensures { RecordsCall (events_of self.old) (events_of self.new) (CallKind.Create file)
+            (after_create file done) result }
     {
         self.history.reserve()?;
         create_in(&mut self.contents, self.alloc, file, done)?;
@@ -159,7 +165,8 @@ impl MemoryState {
     }
 
     pub fn remove(&mut self, file: FileId, done: bool) -> Result<(), AllocError>
-        ensures { RecordsCall (events_of self.old) (events_of self.new) (CallKind.Remove file) (after_remove file done) result }
+        ensures { RecordsCall (events_of self.old) (events_of self.new) (CallKind.Remove file)
+            (after_remove file done) result }
     {
         self.history.reserve()?;
         remove_in(&mut self.contents, file, done);

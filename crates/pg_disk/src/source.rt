@@ -13,13 +13,14 @@ pub trait Source {
     /// How often it has failed.
     ghost faults: { Self → ℕ };
 
-    /// Puts a prefix of what is left at the buffer's beginning, and answers its length. An answer of 0 for a buffer that
-    /// isn't empty is the end.
+    /// Puts a prefix of what is left at the buffer's beginning, and answers its length. An answer of 0 for a buffer
+    /// that isn't empty is the end.
     fn read(&mut self, buf: &mut [u8]) -> Result<usize, Failed>
         ensures count { IfOk result (λ n. n ≤ length buf.old) }
         ensures bytes { IfOk result (λ n. TakesFrom (rest self.old) (rest self.new) (take n buf.new)) }
         ensures behind { IfOk result (λ n. drop n buf.new ≡ drop n buf.old) }
-        ensures at_end { IfOk result (λ n. n ≡ 0 → (length buf.old ≡ 0 → ⊥) → (xs : _) → rest self.old ≡ Some xs → xs ≡ []) }
+        ensures at_end { IfOk result (λ n. n ≡ 0 → (length buf.old ≡ 0 → ⊥) → (xs : _) → rest self.old ≡ Some xs
+            → xs ≡ []) }
         ensures err { OnErr result (rest self.new ≡ rest self.old) }
         ensures cause { CountsSource (faults self.old) (faults self.new) result };
 }

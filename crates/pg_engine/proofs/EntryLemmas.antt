@@ -30,7 +30,7 @@ use Rattle.pg_recover.specs.Broker.{Address, Queue, place_of, routed, plain}
 use Rattle.pg_recover.specs.Broker.{queue_named as broker_queue_named}
 use Rattle.pg_recover.specs.Denotation.{address_of, queue_of}
 use Rattle.pg_engine.specs.Kept.{IsDrawn, name_of_row, names_in}
-use Rattle.pg_engine.specs.Names.{IsId, QueueName, RouteNames, address_named, queue_named, numbers_at}
+use Rattle.pg_engine.specs.Names.{IsId, QueueName, RouteNames, address_named, queue_named, queue_ids_at}
 use Rattle.pg_engine.proofs.PartLemmas.{CountFrom, counted, Ascend, ascend, from_one}
 
 -- what is looked for in a mapped list is looked for in the list
@@ -140,10 +140,10 @@ module _ (rows : List JournaledRow) (queues : List QueueRow) (name : List ℕ) w
   abbrev found : Option QueueRow
   found = find (λ row. bytes_eq name row.name) queues
 
-  named_is : option_map (λ q. q.number) (find (λ q. bytes_eq name q.name) (map name_of_row queues)) ≡ option_map (λ row. row.id) found
-  named_is = ap (option_map (λ (q : QueueName). q.number)) (find_map (λ (q : QueueName). bytes_eq name q.name) name_of_row queues) ∙ inside found
+  named_is : option_map (λ q. q.id) (find (λ q. bytes_eq name q.name) (map name_of_row queues)) ≡ option_map (λ row. row.id) found
+  named_is = ap (option_map (λ (q : QueueName). q.id)) (find_map (λ (q : QueueName). bytes_eq name q.name) name_of_row queues) ∙ inside found
     where
-      inside : (o : Option QueueRow) → option_map (λ (q : QueueName). q.number) (option_map name_of_row o) ≡ option_map (λ row. row.id) o
+      inside : (o : Option QueueRow) → option_map (λ (q : QueueName). q.id) (option_map name_of_row o) ≡ option_map (λ row. row.id) o
       inside None = refl
       inside (Some row) = refl
 
@@ -158,14 +158,14 @@ module _ (rows : List JournaledRow) (queues : List QueueRow) (name : List ℕ) w
   a_row None id is = absurd (none-some id is)
   a_row (Some row) id is = (row, same_Some row.id id is, refl)
 
-  pub has_no_queue : option_map (λ q. q.number) (find (λ q. bytes_eq name q.name) (map name_of_row queues)) ≡ None → broker_queue_named (map (queue_of rows) queues) name ≡ None
+  pub has_no_queue : option_map (λ q. q.id) (find (λ q. bytes_eq name q.name) (map name_of_row queues)) ≡ None → broker_queue_named (map (queue_of rows) queues) name ≡ None
   has_no_queue is = queue_is ∙ ap (option_map (queue_of rows)) (no_row found (sym named_is ∙ is))
 
-  pub has_a_queue : (id : ℕ) → option_map (λ q. q.number) (find (λ q. bytes_eq name q.name) (map name_of_row queues)) ≡ Some id
+  pub has_a_queue : (id : ℕ) → option_map (λ q. q.id) (find (λ q. bytes_eq name q.name) (map name_of_row queues)) ≡ Some id
       → (row : QueueRow) × (row.id ≡ id) × (broker_queue_named (map (queue_of rows) queues) name ≡ Some (queue_of rows row))
   has_a_queue id is = let row = a_row found id (sym named_is ∙ is) in (row.0, row.1, queue_is ∙ ap (option_map (queue_of rows)) row.2)
 
-  pub no_queue_named : option_map (λ q. q.number) (find (λ q. bytes_eq name q.name) (map name_of_row queues)) ≡ None → has_queue_named queues name ≡ false
+  pub no_queue_named : option_map (λ q. q.id) (find (λ q. bytes_eq name q.name) (map name_of_row queues)) ≡ None → has_queue_named queues name ≡ false
   no_queue_named is =
       any_agrees (λ row. bytes_eq row.name name) (λ row. bytes_eq name row.name) (λ row. turned row.name name) queues
       ∙ none_found (λ row. bytes_eq name row.name) queues (no_row found (sym named_is ∙ is))
@@ -173,17 +173,17 @@ module _ (rows : List JournaledRow) (queues : List QueueRow) (name : List ℕ) w
 same_place : (address place : ℕ) → 1 ≤ address → eqb (address - 1) place ≡ eqb address (place + 1)
 same_place address place low = grind (arith, nat_tests)
 
-routed_rows : (rows : List JournaledRow) (place : ℕ) (queues : List QueueRow) → AllByRecursion (λ row. 1 ≤ row.address) queues → routed place (map (queue_of rows) queues) ≡ numbers_at (place + 1) (map name_of_row queues)
+routed_rows : (rows : List JournaledRow) (place : ℕ) (queues : List QueueRow) → AllByRecursion (λ row. 1 ≤ row.address) queues → routed place (map (queue_of rows) queues) ≡ queue_ids_at (place + 1) (map name_of_row queues)
 routed_rows rows place [] low = refl
 routed_rows rows place (row ∷ queues) low = ap₂ (λ (b : Bool) (l : List ℕ). cond b (row.id ∷ l) l) (same_place row.address place low.0) (routed_rows rows place queues low.1)
 
 -- the broker's queues of an address have the numbers that the names list
-pub routed_is : (d : Durable) (address place : ℕ) → IsSound d → address ≡ place + 1 → routed place (map (queue_of d.journaled) d.queues) ≡ numbers_at address (map name_of_row d.queues)
-routed_is d address place sound is = routed_rows d.journaled place d.queues (from_one d sound) ∙ ap (λ (id : ℕ). numbers_at id (map name_of_row d.queues)) (sym is)
+pub routed_is : (d : Durable) (address place : ℕ) → IsSound d → address ≡ place + 1 → routed place (map (queue_of d.journaled) d.queues) ≡ queue_ids_at address (map name_of_row d.queues)
+routed_is d address place sound is = routed_rows d.journaled place d.queues (from_one d sound) ∙ ap (λ (id : ℕ). queue_ids_at id (map name_of_row d.queues)) (sym is)
 
 module _ (address : ℕ) where
   abbrev numbers : List QueueRow → List ℕ
-  numbers queues = numbers_at address (map name_of_row queues)
+  numbers queues = queue_ids_at address (map name_of_row queues)
 
   pub counted_at : (queues : List QueueRow) → queues_at queues address ≡ length (numbers queues)
   counted_at [] = refl
@@ -227,7 +227,7 @@ some_number [] some = absurd (some refl)
 some_number (n ∷ numbers) some = omega arith
 
 -- the numbers of the queues of an address are as an entry lists them
-pub are_queues : (d : Durable) (address : ℕ) (numbers : List ℕ) → IsSound d → numbers ≡ numbers_at address (map name_of_row d.queues) → All (λ n. n < 2 ^ 32) numbers → numbers ≢ [] → AreQueues numbers
+pub are_queues : (d : Durable) (address : ℕ) (numbers : List ℕ) → IsSound d → numbers ≡ queue_ids_at address (map name_of_row d.queues) → All (λ n. n < 2 ^ 32) numbers → numbers ≢ [] → AreQueues numbers
 are_queues d address numbers sound same in_range some = record {
   count = (some_number numbers some, let few = sound.queues.few address in omega (arith, few, counted_at address d.queues, ap length same));
   each = in_range;
@@ -291,7 +291,7 @@ address_fields d name max page ahead dup few spelled fits =
     (omega (arith, few), spelled, omega arith, omega arith, omega arith, omega arith)
 
 -- the entry of a queue whose name is new, at an address that has room for it
-pub queue_condition : (d : Durable) (address : ℕ) (name : List ℕ) → IsSound d → queue_named (names_in d) name ≡ None → 1 ≤ address → address ≤ length d.addresses → length (numbers_at address (map name_of_row d.queues)) < 1000
+pub queue_condition : (d : Durable) (address : ℕ) (name : List ℕ) → IsSound d → queue_named (names_in d) name ≡ None → 1 ≤ address → address ≤ length d.addresses → length (queue_ids_at address (map name_of_row d.queues)) < 1000
     → d.next < 4294967295 → rule_of d (entry.Queue d.next address name []) ≡ None
 queue_condition d address name sound new low high room number =
     let first : (eqb d.next d.next && (ltb d.next 4294967295 && not (has_queue_named d.queues name))) ≡ true =
@@ -306,7 +306,7 @@ queue_fields d address name sound high number spelled =
     (omega (arith, number), omega (arith, high), spelled, (IsUtf8-nil, omega arith))
 
 -- the entry of a message with the next id, for the queues of the address
-module _ (d : Durable) (address drawn : ℕ) (body numbers : List ℕ) (m : Message) (sound : IsSound d) (same : numbers ≡ numbers_at address (map name_of_row d.queues)) (is : m ≡ plain (record { epoch = d.epoch; number = drawn + 1 }) body) where
+module _ (d : Durable) (address drawn : ℕ) (body numbers : List ℕ) (m : Message) (sound : IsSound d) (same : numbers ≡ queue_ids_at address (map name_of_row d.queues)) (is : m ≡ plain (record { epoch = d.epoch; number = drawn + 1 }) body) where
   pub add_condition : All (λ row. IsDrawn d.epoch drawn row.message.id) d.journaled → 1 ≤ address → address ≤ length d.addresses → rule_of d (entry.Add address numbers m) ≡ None
   add_condition drawn_all low high =
       let first : (has_address d.addresses address && (list_all (has_queue_at d.queues address) numbers && leb m.id.epoch d.epoch)) ≡ true =
@@ -319,4 +319,4 @@ module _ (d : Durable) (address drawn : ℕ) (body numbers : List ℕ) (m : Mess
   pub add_fields : HasMessageFields m → All (λ n. n < 2 ^ 32) numbers → numbers ≢ [] → address ≤ length d.addresses → length body ≤ longest_body → HasFields (entry.Add address numbers m)
   add_fields fields in_range some high short =
       let few = sound.addresses.few in
-      (omega (arith, high), are_queues d address numbers sound same in_range some, record { fields = fields; light = plain_light m (record { epoch = d.epoch; number = drawn + 1 }) body is short })
+      (omega (arith, high), are_queues d address numbers sound same in_range some, record { fields = fields; light = omega (arith, plain_light m (record { epoch = d.epoch; number = drawn + 1 }) body is short) })

@@ -119,7 +119,7 @@ with_address_fit d now old names weights more_weights drawn name max page ahead 
 -- a queue more
 pub with_queue_fit : (d now : Durable) (old names : RouteNames) (weights : List ℕ) (drawn address : ℕ) (name : List ℕ) → IsFit d old weights drawn
     → rule_of d (entry.Queue d.next address name []) ≡ None → HasFields (entry.Queue d.next address name []) → now ≡ changed d (entry.Queue d.next address name [])
-    → names.addresses ≡ old.addresses → names.queues ≡ old.queues ++ (record { number = d.next; address = address; name = name } ∷ []) → IsFit now names weights drawn
+    → names.addresses ≡ old.addresses → names.queues ≡ old.queues ++ (record { id = d.next; address = address; name = name } ∷ []) → IsFit now names weights drawn
 with_queue_fit d now old names weights drawn address name fit condition fields is addresses queues =
     let new : QueueRow = record { id = d.next; address = address; name = name; filter = [] } in
     let after = changed d (entry.Queue d.next address name []) in

@@ -17,7 +17,7 @@ use Rattle.indexmap.proofs.CallerLemmas.{insert_entry-new}
 use Rattle.indexmap.specs.IndexMap.{IndexMap, insert_entry, set_value_at}
 use Rattle.pg_engine.specs.declared.routes.AddressEntry.{AddressEntry}
 use Rattle.pg_engine.specs.declared.routes.QueueEntry.{QueueEntry}
-use Rattle.pg_engine.specs.Names.{QueueName, AddressEntries, QueueEntries, IsId, IsListing, Lists, address_named, queue_named, numbers_at, queue_of, names_of}
+use Rattle.pg_engine.specs.Names.{QueueName, AddressEntries, QueueEntries, IsId, IsListing, Lists, address_named, queue_named, queue_ids_at, queue_of, names_of}
 
 -- the key has the name
 abbrev pub has_name : List ℕ → String Global → Bool
@@ -60,13 +60,13 @@ id_of_name name es qs listing = id_from 0 name es (λ place e at. listing.ids pl
     plain p n = grind (arith, nat_tests)
 
 -- a queue is found by its name
-pub number_of_name : (name : List ℕ) (es : AddressEntries) (qs : QueueEntries) → option_map (λ q. q.number) (lookup (has_name name) qs) ≡ queue_named (names_of es qs) name
-number_of_name name es [] = refl
-number_of_name name es (q ∷ qs) =
-    elim (bytes_eq name (string_bytes q.0)) as (λ b. option_map (λ x. x.number) (cond b (Some q.1) (lookup (has_name name) qs))
-    ≡ option_map (λ x. x.number) (cond b (Some (queue_of q)) (find (λ x. bytes_eq name x.name) (map queue_of qs)))) [
+pub queue_id_of_name : (name : List ℕ) (es : AddressEntries) (qs : QueueEntries) → option_map (λ q. q.id) (lookup (has_name name) qs) ≡ queue_named (names_of es qs) name
+queue_id_of_name name es [] = refl
+queue_id_of_name name es (q ∷ qs) =
+    elim (bytes_eq name (string_bytes q.0)) as (λ b. option_map (λ x. x.id) (cond b (Some q.1) (lookup (has_name name) qs))
+    ≡ option_map (λ x. x.id) (cond b (Some (queue_of q)) (find (λ x. bytes_eq name x.name) (map queue_of qs)))) [
       | true ↦ refl
-      | false ↦ number_of_name name es qs
+      | false ↦ queue_id_of_name name es qs
     ]
 
 nothing_found : {X : Type 0} (f : X → ℕ) (found : Option X) → option_map f found ≡ None → found ≡ None
@@ -84,7 +84,7 @@ pub queue_inserted : (es : AddressEntries) (old new : IndexMap (String Global) Q
     → string_bytes key ≡ name → queue_named (names_of es old.entries) name ≡ None → new.entries ≡ insert_entry string_eq old.entries key q → new.entries ≡ old.entries ++ (key, q) ∷ []
 queue_inserted es old new key q name is absent inserted =
     let at_key : queue_named (names_of es old.entries) (string_bytes key) ≡ None = ap (queue_named (names_of es old.entries)) is ∙ absent in
-    inserted ∙ insert_entry-new string_eq old key q (nothing_found (λ x. x.number) (lookup (has_name (string_bytes key)) old.entries) (number_of_name (string_bytes key) es old.entries ∙ at_key))
+    inserted ∙ insert_entry-new string_eq old key q (nothing_found (λ x. x.id) (lookup (has_name (string_bytes key)) old.entries) (queue_id_of_name (string_bytes key) es old.entries ∙ at_key))
 
 -- the entry at a place is an old one, or the one at the end
 pushed_cases : (es : AddressEntries) (e : String Global × AddressEntry) (place : ℕ) (x : String Global × AddressEntry) → slice_get (es ++ e ∷ []) place ≡ Some x
@@ -95,11 +95,11 @@ pushed_cases (y ∷ es) e zero x at = inl at
 pushed_cases (y ∷ es) e (suc place) x at = elim (pushed_cases es e place x at) [ inl h ↦ inl h | inr h ↦ inr (ap suc h.0, h.1) ]
 
 -- no queue is at an address past the last one
-no_numbers : (count address : ℕ) (qs : QueueEntries) → All (λ q. IsId count q.1.address) qs → count < address → numbers_at address (map queue_of qs) ≡ []
+no_numbers : (count address : ℕ) (qs : QueueEntries) → All (λ q. IsId count q.1.address) qs → count < address → queue_ids_at address (map queue_of qs) ≡ []
 no_numbers count address [] placed past = refl
 no_numbers count address (q ∷ qs) placed past =
     let first = All-head (λ x. IsId count x.1.address) q qs placed in
-    ap (λ (b : Bool). if b then q.1.number ∷ numbers_at address (map queue_of qs) else numbers_at address (map queue_of qs)) (ne_eqb q.1.address address (λ e. omega (arith, first.1)))
+    ap (λ (b : Bool). if b then q.1.id ∷ queue_ids_at address (map queue_of qs) else queue_ids_at address (map queue_of qs)) (ne_eqb q.1.address address (λ e. omega (arith, first.1)))
     ∙ no_numbers count address qs (All-tail (λ x. IsId count x.1.address) q qs placed) past
 
 placed_more : (count more : ℕ) (qs : QueueEntries) → count ≤ more → All (λ q. IsId count q.1.address) qs → All (λ q. IsId more q.1.address) qs
@@ -151,22 +151,22 @@ pub names_listed : (place number : ℕ) (es fs : AddressEntries) → Lists place
 names_listed place number es fs lists = ap keys_as_names lists.3 ∙ names_set es place lists.1
 
 -- the queue's number goes to its own address
-numbers_pushed : (address : ℕ) (qs : List QueueName) (q : QueueName) → q.address ≡ address → numbers_at address (qs ++ q ∷ []) ≡ numbers_at address qs ++ q.number ∷ []
-numbers_pushed address [] q is = ap (λ (b : Bool). if b then q.number ∷ [] else []) (eq-eqb q.address address is)
+numbers_pushed : (address : ℕ) (qs : List QueueName) (q : QueueName) → q.address ≡ address → queue_ids_at address (qs ++ q ∷ []) ≡ queue_ids_at address qs ++ q.id ∷ []
+numbers_pushed address [] q is = ap (λ (b : Bool). if b then q.id ∷ [] else []) (eq-eqb q.address address is)
 numbers_pushed address (x ∷ qs) q is =
-    elim (x.address == address) as (λ b. (if b then x.number ∷ numbers_at address (qs ++ q ∷ []) else numbers_at address (qs ++ q ∷ []))
-    ≡ (if b then x.number ∷ numbers_at address qs else numbers_at address qs) ++ q.number ∷ []) [
-      | true ↦ ap (λ (ns : List ℕ). x.number ∷ ns) (numbers_pushed address qs q is)
+    elim (x.address == address) as (λ b. (if b then x.id ∷ queue_ids_at address (qs ++ q ∷ []) else queue_ids_at address (qs ++ q ∷ []))
+    ≡ (if b then x.id ∷ queue_ids_at address qs else queue_ids_at address qs) ++ q.id ∷ []) [
+      | true ↦ ap (λ (ns : List ℕ). x.id ∷ ns) (numbers_pushed address qs q is)
       | false ↦ numbers_pushed address qs q is
     ]
 
-numbers_other : (address : ℕ) (qs : List QueueName) (q : QueueName) → (q.address ≡ address → ⊥) → numbers_at address (qs ++ q ∷ []) ≡ numbers_at address qs
-numbers_other address [] q ne = ap (λ (b : Bool). if b then q.number ∷ [] else []) (ne_eqb q.address address ne)
-numbers_other address (x ∷ qs) q ne = ap (λ (ns : List ℕ). if x.address == address then x.number ∷ ns else ns) (numbers_other address qs q ne)
+numbers_other : (address : ℕ) (qs : List QueueName) (q : QueueName) → (q.address ≡ address → ⊥) → queue_ids_at address (qs ++ q ∷ []) ≡ queue_ids_at address qs
+numbers_other address [] q ne = ap (λ (b : Bool). if b then q.id ∷ [] else []) (ne_eqb q.address address ne)
+numbers_other address (x ∷ qs) q ne = ap (λ (ns : List ℕ). if x.address == address then x.id ∷ ns else ns) (numbers_other address qs q ne)
 
 -- a queue more, which its address lists
 pub listing_queued : (es fs : AddressEntries) (qs : QueueEntries) (place : ℕ) (q : String Global × QueueEntry) → IsListing es qs → place < length es → q.1.address ≡ place + 1
-    → Lists place q.1.number es fs → IsListing fs (qs ++ q ∷ [])
+    → Lists place q.1.id es fs → IsListing fs (qs ++ q ∷ [])
 listing_queued es fs qs place q listing within address lists =
     subst (λ (gs : AddressEntries). IsListing gs (qs ++ q ∷ [])) (sym lists.3) (record {
       ids = λ p x at. elim (set_cases es place lists.1 p x at) [
@@ -176,13 +176,13 @@ listing_queued es fs qs place q listing within address lists =
       listed = λ p x at. elim (set_cases es place lists.1 p x at) [
         | inl written ↦
             ap (λ (a : AddressEntry). a.queues.items) written.1 ∙ lists.4.queues
-            ∙ ap (λ (ns : List ℕ). ns ++ q.1.number ∷ []) (old_list ∙ ap (λ (n : ℕ). numbers_at (n + 1) (map queue_of qs)) (sym written.0))
+            ∙ ap (λ (ns : List ℕ). ns ++ q.1.id ∷ []) (old_list ∙ ap (λ (n : ℕ). queue_ids_at (n + 1) (map queue_of qs)) (sym written.0))
             ∙ sym (numbers_pushed (p + 1) (map queue_of qs) (queue_of q) (address ∙ ap (λ (n : ℕ). n + 1) (sym written.0)))
-            ∙ ap (λ (ns : List QueueName). numbers_at (p + 1) ns) (sym (map_push queue_of qs q))
+            ∙ ap (λ (ns : List QueueName). queue_ids_at (p + 1) ns) (sym (map_push queue_of qs q))
         | inr old ↦
             listing.listed p x old.1
             ∙ sym (numbers_other (p + 1) (map queue_of qs) (queue_of q) (λ e. old.0 (other p e)))
-            ∙ ap (λ (ns : List QueueName). numbers_at (p + 1) ns) (sym (map_push queue_of qs q))
+            ∙ ap (λ (ns : List QueueName). queue_ids_at (p + 1) ns) (sym (map_push queue_of qs q))
       ];
       placed = placed_more (length es) (length (set_value_at es place lists.1)) (qs ++ q ∷ []) (omega (arith, length_set es place lists.1)) (All-push (λ x. IsId (length es) x.1.address) qs q listing.placed (omega arith, omega arith));
     })
@@ -193,7 +193,7 @@ listing_queued es fs qs place q listing within address lists =
     old_id : lists.0.id ≡ place + 1
     old_id = ap (λ (a : AddressEntry). a.id) (sym entry.2) ∙ listing.ids place entry.0 entry.1
 
-    old_list : lists.0.queues.items ≡ numbers_at (place + 1) (map queue_of qs)
+    old_list : lists.0.queues.items ≡ queue_ids_at (place + 1) (map queue_of qs)
     old_list = ap (λ (a : AddressEntry). a.queues.items) (sym entry.2) ∙ listing.listed place entry.0 entry.1
 
     other : (p : ℕ) → q.1.address ≡ p + 1 → p ≡ place

@@ -122,14 +122,14 @@ module _ (rows : List QueueRow) (i : ℕ) (row : QueueRow) (within : i < length 
   module _ (names : RouteNames) (named : names.queues ≡ map name_of_row (take i rows)) where
     pub new_queue : AllPairs (λ x other. x.name ≢ other.name) rows → (name : List ℕ) → name ≡ row.name → queue_named names name ≡ None
     new_queue differ name same =
-        ap (queue_named names) same ∙ ap (λ (l : List QueueName). option_map (λ q. q.number) (find (λ q. bytes_eq row.name q.name) l)) named
-        ∙ ap (option_map (λ q. q.number)) (not_found row.name (map name_of_row (take i rows)) (All-map (λ q. q.name ≢ row.name) name_of_row (take i rows) (queues_before differ)))
+        ap (queue_named names) same ∙ ap (λ (l : List QueueName). option_map (λ q. q.id) (find (λ q. bytes_eq row.name q.name) l)) named
+        ∙ ap (option_map (λ q. q.id)) (not_found row.name (map name_of_row (take i rows)) (All-map (λ q. q.name ≢ row.name) name_of_row (take i rows) (queues_before differ)))
 
-    pub more_queues : (after : List QueueName) (name : List ℕ) → name ≡ row.name → after ≡ names.queues ++ record { number = row.id; address = row.address; name = name } ∷ []
+    pub more_queues : (after : List QueueName) (name : List ℕ) → name ≡ row.name → after ≡ names.queues ++ record { id = row.id; address = row.address; name = name } ∷ []
         → after ≡ map name_of_row (take (i + 1) rows)
     more_queues after name same pushed =
-        pushed ∙ ap (λ (l : List QueueName). l ++ record { number = row.id; address = row.address; name = name } ∷ []) named
-        ∙ ap (λ (n : List ℕ). map name_of_row (take i rows) ++ record { number = row.id; address = row.address; name = n } ∷ []) same
+        pushed ∙ ap (λ (l : List QueueName). l ++ record { id = row.id; address = row.address; name = name } ∷ []) named
+        ∙ ap (λ (n : List ℕ). map name_of_row (take i rows) ++ record { id = row.id; address = row.address; name = n } ∷ []) same
         ∙ ap (λ (x : QueueRow). map name_of_row (take i rows) ++ name_of_row x ∷ []) at
         ∙ sym (map_more name_of_row rows i row within)
 

@@ -1,16 +1,18 @@
 -- The broker that an opening gives, and what a crash within it leaves.
 use Rattle.std.proofs.Common.{◌≡◌, inl, inr, ⊎_elim, ℕ, List, Option, refl, sym, ◌∙◌, ap, subst}
-use Rattle.pg_disk.specs.Account.{Account, account, IsHonest}
+use Rattle.pg_disk.specs.declared.disk.Disk.{Ghosts}
+use Rattle.pg_disk.specs.Account.{Account, account, IsHonest, AllQuiet}
 use Rattle.pg_disk.specs.Calls.{Changes}
 use Rattle.pg_disk.specs.Files.{Files}
+use Rattle.pg_disk.specs.Image.{AnyFile, OnceQuiet}
 use Rattle.pg_disk.specs.Moments.{Within, WithinFrom}
-use Rattle.pg_disk.proofs.Runs.{weaker}
+use Rattle.pg_disk.proofs.Composing.{from_weaker, once_weaker, weaker}
 use Rattle.pg_fold.specs.declared.durable.Durable.{Durable as Folded}
-use Rattle.pg_journal.specs.Generations.{Contents, as_read}
-use Rattle.pg_recover.specs.declared.opening.Parts.{Parts}
+use Rattle.pg_disk.specs.Views.{Contents, as_read}
+use Rattle.pg_recover.specs.declared.recovering.Parts.{Parts}
 use Rattle.pg_recover.specs.Broker.{Durable, next_epoch, opened_from}
 use Rattle.pg_recover.specs.Denotation.{Denotes, FoldsTo, durable_part, raised}
-use Rattle.pg_recover.specs.Recovered.{AllQuiet, LeavesOpened, OpensFiles}
+use Rattle.pg_recover.specs.Recovered.{LeavesOpened, OpensFiles}
 use Rattle.pg_recover.specs.Recovered.{Owns as OwnsJournal}
 use Rattle.pg_recover.specs.WellFormed.{WellFormed}
 use Rattle.pg_recover.proofs.OneState.{state_is}
@@ -25,25 +27,26 @@ one_denoted contents a b this that =
     this.is ∙ ap durable_part same ∙ sym that.is
 
 -- What gives the state from before, or that in the next epoch, denotes what was denoted, or that in the next epoch.
-pub epoch_left : (asked : Type 0) (old : Option Account) (c : Files) (b : List ℕ) → LeavesOpened asked old c b → LeavesEpoch asked old c b
-epoch_left asked old c b left = record {
+pub epoch_left : (old : Option Account) (c : Files) (b : List ℕ) → LeavesOpened old c b → LeavesEpoch old c b
+epoch_left old c b left = record {
   honest = left.honest;
   nothing = left.nothing;
-  denoted = λ is d denoted.
-      ⊎_elim (λ folds. inl (record { state = denoted.state; folds = folds; is = denoted.is })) (λ folds. inr (record { state = raised denoted.state; folds = folds; is = ap next_epoch denoted.is }))
-      (left.denotes is denoted.state denoted.folds);
-  well = left.well;
+  means = ⊎_elim
+      (λ one. inl (record { denoted = λ d denoted. record { state = denoted.state; folds = one.folds denoted.state denoted.folds; is = denoted.is }; well = one.well }))
+      (λ other. inr (record {
+        denoted = λ d denoted. record { state = raised denoted.state; folds = other.folds denoted.state denoted.folds; is = ap next_epoch denoted.is };
+        well = other.well;
+      }))
+      left.means;
 }
 
 -- at each moment of an opening
-pub epoch_moments : {D : Type 0} (moment : D → ℕ) (left_since : D → ℕ → Files → List ℕ → Type 0) (old new : D) (asked : Type 0) (tells : Option Account)
-    → Within moment left_since old new (LeavesOpened asked tells) → Within moment left_since old new (LeavesEpoch asked tells)
-epoch_moments moment left_since old new asked tells run = weaker moment left_since old new _ _ run (epoch_left asked tells)
+pub epoch_moments : {D : Type 0} (m : Ghosts D) (old new : D) → Within m old new (OnceQuiet LeavesOpened) → Within m old new (OnceQuiet LeavesEpoch)
+epoch_moments m old new run = weaker m old new (OnceQuiet LeavesOpened) (OnceQuiet LeavesEpoch) run (λ c b. once_weaker LeavesOpened LeavesEpoch (m.tells old) c b (epoch_left (m.tells old) c b))
 
--- and from some moment on
-pub epoch_from : {D : Type 0} (moment : D → ℕ) (left_since : D → ℕ → Files → List ℕ → Type 0) (old new : D) (asked : Type 0) (tells : Option Account)
-    → WithinFrom moment left_since old new (LeavesOpened asked tells) → WithinFrom moment left_since old new (LeavesEpoch asked tells)
-epoch_from moment left_since old new asked tells run = record { first = run.first; after = run.after; until = run.until; each = λ c b left. epoch_left asked tells c b (run.each c b left) }
+-- and from the moment on at which nothing is pending
+pub epoch_from : {D : Type 0} (m : Ghosts D) (old new : D) → WithinFrom m AnyFile old new LeavesOpened → WithinFrom m AnyFile old new LeavesEpoch
+epoch_from m old new from = from_weaker m AnyFile old new LeavesOpened LeavesEpoch from (epoch_left (m.tells from.at))
 
 -- the engine of the parts that were recovered
 pub opened_at : (ids : ℕ) (old new : Option Account) (parts : Parts) (engine : Engine) → engine ≡ engine_of ids parts → Changes old new OpensFiles

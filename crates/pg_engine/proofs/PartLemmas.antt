@@ -18,7 +18,7 @@ use Rattle.pg_fold.specs.Sound.{IsHeldRow, IsSound}
 use Rattle.pg_recover.specs.Broker.{Address, Queue, holding, given}
 use Rattle.pg_recover.specs.Denotation.{held_by, held_at, weight_at, address_of, queue_of, durable_part}
 use Rattle.pg_engine.specs.Kept.{name_of_row}
-use Rattle.pg_engine.specs.Names.{numbers_at}
+use Rattle.pg_engine.specs.Names.{queue_ids_at}
 
 -- a test that no element passes leaves none
 none_left : {X : Type 0} (test : X → Bool) (xs : List X) → AllByRecursion (λ x. test x ≡ false) xs → filter test xs ≡ []
@@ -104,12 +104,12 @@ with_address_part d name max page ahead dup sound =
 
 -- and a further queue has none either
 pub with_queue_part : (d : Durable) (address : ℕ) (name : List ℕ) → IsSound d → durable_part (changed d (entry.Queue d.next address name []))
-    ≡ record { epoch = d.epoch; next = d.next + 1; addresses = map (address_of d.journaled) d.addresses; queues = map (queue_of d.journaled) d.queues ++ (record { number = d.next; name = name; address = address - 1; messages = [] } ∷ []) }
+    ≡ record { epoch = d.epoch; next = d.next + 1; addresses = map (address_of d.journaled) d.addresses; queues = map (queue_of d.journaled) d.queues ++ (record { id = d.next; name = name; address = address - 1; messages = [] } ∷ []) }
 with_queue_part d address name sound =
     let row : QueueRow = record { id = d.next; address = address; name = name; filter = [] } in
     ap (λ (queues : List Queue). record { epoch = d.epoch; next = d.next + 1; addresses = map (address_of d.journaled) d.addresses; queues = queues }) (
     map-append (queue_of d.journaled) d.queues (row ∷ [])
-    ∙ ap (λ (messages : List Message). map (queue_of d.journaled) d.queues ++ (record { number = d.next; name = name; address = address - 1; messages = messages } ∷ [])) (nothing_by d sound)
+    ∙ ap (λ (messages : List Message). map (queue_of d.journaled) d.queues ++ (record { id = d.next; name = name; address = address - 1; messages = messages } ∷ [])) (nothing_by d sound)
     )
 
 -- a message more, at the address with this id and for these queues
@@ -185,7 +185,7 @@ module _ (rows : List JournaledRow) (address : ℕ) (holders : List ℕ) (m : Me
       ap₂ (λ (w : ℕ) (ws : List ℕ). w ∷ ws) (weight_elsewhere row.id (λ same. let first = counts.0 in omega arith)) (weights_from (base + 1) place addresses counts.1 (omega (arith, is)))
 
   abbrev has : QueueRow → List Message → Queue
-  has row messages = record { number = row.id; name = row.name; address = row.address - 1; messages = messages }
+  has row messages = record { id = row.id; name = row.name; address = row.address - 1; messages = messages }
 
   -- the holders are the queues of the address
   abbrev pub Told : QueueRow → Type 0
@@ -219,7 +219,7 @@ ascend (row ∷ rows) pairs = (λ k d within. pairs 0 (suc k) d (omega arith) (o
 -- the numbers at an address have a queue exactly where it is one of the address
 module _ (address : ℕ) where
   abbrev numbers : List QueueRow → List ℕ
-  numbers queues = numbers_at address (map name_of_row queues)
+  numbers queues = queue_ids_at address (map name_of_row queues)
 
   lacks : (id : ℕ) (queues : List QueueRow) → AllByRecursion (λ row. id < row.id) queues → has_number (numbers queues) id ≡ false
   lacks id [] above = refl
@@ -262,7 +262,7 @@ both_told address holders [] low told = tt
 both_told address holders (row ∷ queues) low told = ((low.0, told.0), both_told address holders queues low.1 told.1)
 
 -- a further message is held for its address, and given to the address's queues
-pub with_message_part : (d : Durable) (address place : ℕ) (numbers : List ℕ) (m : Message) → IsSound d → address ≡ place + 1 → numbers ≡ numbers_at address (map name_of_row d.queues) → durable_part (changed d (entry.Add address numbers m))
+pub with_message_part : (d : Durable) (address place : ℕ) (numbers : List ℕ) (m : Message) → IsSound d → address ≡ place + 1 → numbers ≡ queue_ids_at address (map name_of_row d.queues) → durable_part (changed d (entry.Add address numbers m))
     ≡ record { epoch = d.epoch; next = d.next; addresses = holding place m (map (address_of d.journaled) d.addresses); queues = given place m (map (queue_of d.journaled) d.queues) }
 with_message_part d address place numbers m sound is same =
     let told = subst (λ (l : List ℕ). AllByRecursion (λ row. has_number l row.id ≡ eqb row.address address) d.queues) (sym same) (tell address d.queues (ascend d.queues sound.queues.ascending)) in

@@ -7,8 +7,6 @@ use Rattle.std.proofs.lemmas.Option.{slice_get-map, same_Some}
 use Rattle.pg_disk.specs.declared.fault.Fault.TheVariants.{Spent}
 use Rattle.pg_msg.specs.declared.command.Command.{Command}
 use Rattle.pg_msg.specs.declared.command.Command.TheVariants as command
-use Rattle.pg_msg.specs.declared.properties.Property.{Property}
-use Rattle.pg_msg.specs.Commands.{IsInRange}
 use Rattle.pg_msg.specs.declared.message.Message.{Message}
 use Rattle.pg_msg.specs.declared.reply.Refusal.{Refusal}
 use Rattle.pg_msg.specs.declared.reply.Refusal.TheVariants as refusal
@@ -27,15 +25,21 @@ use Rattle.pg_recover.specs.Denotation.{held_by, weight_at, address_of, durable_
 use Rattle.pg_recover.specs.WellFormed.{AreRoomy}
 use Rattle.pg_engine.specs.declared.state.Outcome.TheVariants.{Unchanged, Changed}
 use Rattle.pg_engine.specs.Kept.{Kept, HasRoom, broker_of, name_of_row, names_in}
-use Rattle.pg_engine.specs.Names.{address_named, queue_named, numbers_at}
-use Rattle.pg_engine.specs.Outcomes.{IsOutcome, IsNoOutcome, batch_of_message}
+use Rattle.pg_engine.specs.Names.{address_named, queue_named, queue_ids_at}
+use Rattle.pg_engine.specs.Outcomes.{IsOutcome, IsNoOutcome, batch_of, batch_of_message, unless_refused}
 use Rattle.pg_engine.proofs.EntryLemmas.{has_place, has_no_place, has_no_queue, has_a_queue, routed_is}
 use Rattle.pg_engine.proofs.PartLemmas.{with_address_part, with_queue_part, with_message_part}
 
+not_both : (why : Refusal) → Some why ≡ None → ⊥
+not_both why e = cc
+
 -- a command with this refusal is refused, and all is as before
 pub refused : (s : Kept) (what : Command) (why : Refusal) → refusal_of (broker_of s) what ≡ Some why → IsOutcome s what (Unchanged s (answer.No why))
-refused s what why is =
-    (refl, subst (λ (o : Option Refusal). MatchOption o (Does (broker_of s) what (answer.No why) (broker_of s)) (λ x. Refuses (broker_of s) x (answer.No why) (broker_of s))) (sym is) (refl, refl))
+refused s what why is = (
+  refl,
+  subst (λ (o : Option Refusal). MatchOption o (Does (broker_of s) what (answer.No why) (broker_of s)) (λ x. Refuses (broker_of s) x (answer.No why) (broker_of s))) (sym is) (refl, refl),
+  record { nothing = ap (λ (o : Option Refusal). unless_refused o (batch_of (broker_of s) what)) is; queue_id = λ accepted none. not_both why (sym is ∙ accepted) },
+)
 
 -- and one without does what it does
 does : (s t : Broker) (what : Command) (reply : Reply) → refusal_of s what ≡ None → Does s what reply t → Step s (Some what) reply t
@@ -87,6 +91,7 @@ module _ (s : Kept) where
           record {
             entry = address_entry;
             accepted = accepted;
+            queue_id = λ no. no;
             batch_is = ap (λ (n : ℕ). entry.Address (n + 1) name max page ahead dup ∷ []) (length-map d.addresses (address_of d.journaled));
             applied = record { condition = condition; effect = now };
             fields = fields;
@@ -120,27 +125,27 @@ module _ (s : Kept) where
       place_and_one : (id - 1) + 1 ≡ id
       place_and_one = let low = (has_place d.journaled d.addresses address id is).0 in omega arith
 
-      routes : routed (id - 1) b.durable.queues ≡ numbers_at id (map name_of_row d.queues)
+      routes : routed (id - 1) b.durable.queues ≡ queue_ids_at id (map name_of_row d.queues)
       routes = routed_is d id (id - 1) sound (sym place_and_one)
 
-      queue_refusal : refusal_of b queued ≡ (if leb 1000 (length (numbers_at id (map name_of_row d.queues))) then Some refusal.Line else None)
+      queue_refusal : refusal_of b queued ≡ (if leb 1000 (length (queue_ids_at id (map name_of_row d.queues))) then Some refusal.Line else None)
       queue_refusal = queue_new new ∙ (ap at_place placed ∙ ap (λ (l : List ℕ). if leb 1000 (length l) then Some refusal.Line else None) routes)
 
-      pub queue_full : 1000 ≤ length (numbers_at id (map name_of_row d.queues)) → IsOutcome s queued (Unchanged s (answer.No refusal.Line))
-      queue_full full = refused s queued refusal.Line (queue_refusal ∙ ap (λ (c : Bool). if c then Some refusal.Line else None) (le-leb 1000 (length (numbers_at id (map name_of_row d.queues))) full))
+      pub queue_full : 1000 ≤ length (queue_ids_at id (map name_of_row d.queues)) → IsOutcome s queued (Unchanged s (answer.No refusal.Line))
+      queue_full full = refused s queued refusal.Line (queue_refusal ∙ ap (λ (c : Bool). if c then Some refusal.Line else None) (le-leb 1000 (length (queue_ids_at id (map name_of_row d.queues))) full))
 
-      queue_accepted : length (numbers_at id (map name_of_row d.queues)) < 1000 → refusal_of b queued ≡ None
-      queue_accepted room = queue_refusal ∙ ap (λ (c : Bool). if c then Some refusal.Line else None) (lt-leb 1000 (length (numbers_at id (map name_of_row d.queues))) room)
+      queue_accepted : length (queue_ids_at id (map name_of_row d.queues)) < 1000 → refusal_of b queued ≡ None
+      queue_accepted room = queue_refusal ∙ ap (λ (c : Bool). if c then Some refusal.Line else None) (lt-leb 1000 (length (queue_ids_at id (map name_of_row d.queues))) room)
 
-      pub queue_spent : length (numbers_at id (map name_of_row d.queues)) < 1000 → 4294967295 ≤ d.next → IsNoOutcome s queued Spent
+      pub queue_spent : length (queue_ids_at id (map name_of_row d.queues)) < 1000 → 4294967295 ≤ d.next → IsNoOutcome s queued Spent
       queue_spent room spent = (queue_accepted room, spent)
 
       abbrev pub queue_entry : Entry
       queue_entry = entry.Queue d.next id name []
 
-      pub queue_outcome : (t : Kept) (batch : List ℕ) → length (numbers_at id (map name_of_row d.queues)) < 1000 → rule_of d queue_entry ≡ None → HasFields queue_entry
+      pub queue_outcome : (t : Kept) (batch : List ℕ) → d.next < 4294967295 → length (queue_ids_at id (map name_of_row d.queues)) < 1000 → rule_of d queue_entry ≡ None → HasFields queue_entry
           → t.durable ≡ changed d queue_entry → t.drawn ≡ s.drawn → t.ids ≡ s.ids → batch ≡ batch_bytes (queue_entry ∷ []) → AreRoomy t.durable → IsOutcome s queued (Changed t batch answer.Done)
-      queue_outcome t batch room condition fields now drawn ids bytes roomy =
+      queue_outcome t batch few room condition fields now drawn ids bytes roomy =
           let same : broker_of t ≡ with_queue b name (id - 1) =
           ap (λ (x : Durable). record { durable = durable_part x; drawn = t.drawn; ids = t.ids }) now
           ∙ (ap (λ (n : ℕ). record { durable = durable_part (changed d queue_entry); drawn = n; ids = t.ids }) drawn
@@ -151,6 +156,7 @@ module _ (s : Kept) where
             record {
               entry = queue_entry;
               accepted = queue_accepted room;
+              queue_id = λ no. omega (arith, few, no);
               batch_is = ap (λ (o : Option ℕ). option_map_or (λ place. entry.Queue d.next (place + 1) name [] ∷ []) o []) placed ∙ ap (λ (n : ℕ). entry.Queue d.next n name [] ∷ []) place_and_one;
               applied = record { condition = condition; effect = now };
               fields = fields;
@@ -180,24 +186,33 @@ module _ (s : Kept) where
       place_then_one : (id - 1) + 1 ≡ id
       place_then_one = let low = (has_place d.journaled d.addresses address id is).0 in omega arith
 
-      goes : routed (id - 1) b.durable.queues ≡ numbers_at id (map name_of_row d.queues)
+      goes : routed (id - 1) b.durable.queues ≡ queue_ids_at id (map name_of_row d.queues)
       goes = routed_is d id (id - 1) sound (sym place_then_one)
 
-      send_refusal : (numbers : List ℕ) → numbers ≡ numbers_at id (map name_of_row d.queues) → refusal_of b sends ≡ refusal_of_routed b (address_of d.journaled row) numbers
+      send_refusal : (numbers : List ℕ) → numbers ≡ queue_ids_at id (map name_of_row d.queues) → refusal_of b sends ≡ refusal_of_routed b (address_of d.journaled row) numbers
       send_refusal numbers same =
           ap send_at sent_to
           ∙ (ap (λ (o : Option Address). refusal_at b (id - 1) o) (slice_get-map (address_of d.journaled) d.addresses (id - 1) ∙ ap (option_map (address_of d.journaled)) at)
           ∙ ap (λ (l : List ℕ). refusal_of_routed b (address_of d.journaled row) l) (goes ∙ sym same))
 
-      sends_to : (numbers : List ℕ) (reply : Reply) (t : Broker) → numbers ≡ numbers_at id (map name_of_row d.queues) → Sends b (id - 1) body numbers reply t → Does b sends reply t
+      sends_to : (numbers : List ℕ) (reply : Reply) (t : Broker) → numbers ≡ queue_ids_at id (map name_of_row d.queues) → Sends b (id - 1) body numbers reply t → Does b sends reply t
       sends_to numbers reply t same done =
           subst (λ (o : Option ℕ). MatchOption o ⊥ (λ place. Sends b place body (routed place b.durable.queues) reply t)) (sym sent_to)
           (subst (λ (l : List ℕ). Sends b (id - 1) body l reply t) (same ∙ sym goes) done)
 
-      pub send_unrouted : [] ≡ numbers_at id (map name_of_row d.queues) → IsOutcome s sends (Unchanged s answer.Unrouted)
-      send_unrouted none = (refl, does b b sends answer.Unrouted (send_refusal [] none) (sends_to [] answer.Unrouted b none (refl, refl)))
+      pub send_unrouted : [] ≡ queue_ids_at id (map name_of_row d.queues) → IsOutcome s sends (Unchanged s answer.Unrouted)
+      send_unrouted none = (
+        refl,
+        does b b sends answer.Unrouted (send_refusal [] none) (sends_to [] answer.Unrouted b none (refl, refl)),
+        record {
+          nothing = ap (λ (o : Option Refusal). unless_refused o (batch_of b sends)) (send_refusal [] none)
+              ∙ (ap (λ (o : Option ℕ). option_map_or (λ place. batch_of_message b place body (routed place b.durable.queues)) o []) sent_to
+              ∙ ap (λ (l : List ℕ). batch_of_message b (id - 1) body l) (goes ∙ sym none));
+          queue_id = λ accepted no. no;
+        },
+      )
 
-      pub send_spent : (numbers : List ℕ) → numbers ≡ numbers_at id (map name_of_row d.queues) → numbers ≢ [] → s.ids ≤ s.drawn → IsOutcome s sends (Unchanged s (answer.No refusal.Line))
+      pub send_spent : (numbers : List ℕ) → numbers ≡ queue_ids_at id (map name_of_row d.queues) → numbers ≢ [] → s.ids ≤ s.drawn → IsOutcome s sends (Unchanged s (answer.No refusal.Line))
       send_spent [] same some spent = absurd (some refl)
       send_spent (n ∷ ns) same some spent =
           refused s sends refusal.Line (send_refusal (n ∷ ns) same
@@ -207,13 +222,13 @@ module _ (s : Kept) where
       resident_is : resident (address_of d.journaled row) ≡ weight_at id d.journaled
       resident_is = ap (λ (n : ℕ). weight_at n d.journaled) number
 
-      by_room : (n : ℕ) (ns : List ℕ) → (n ∷ ns) ≡ numbers_at id (map name_of_row d.queues) → s.drawn < s.ids → refusal_of b sends ≡ (if leb row.max (weight_at id d.journaled) then Some refusal.Line else None)
+      by_room : (n : ℕ) (ns : List ℕ) → (n ∷ ns) ≡ queue_ids_at id (map name_of_row d.queues) → s.drawn < s.ids → refusal_of b sends ≡ (if leb row.max (weight_at id d.journaled) then Some refusal.Line else None)
       by_room n ns same left =
           send_refusal (n ∷ ns) same
           ∙ (ap (λ (c : Bool). if c then Some refusal.Line else (if leb row.max (resident (address_of d.journaled row)) then Some refusal.Line else None)) (lt-leb s.ids s.drawn left)
           ∙ ap (λ (w : ℕ). if leb row.max w then Some refusal.Line else None) resident_is)
 
-      pub send_full : (numbers : List ℕ) → numbers ≡ numbers_at id (map name_of_row d.queues) → numbers ≢ [] → s.drawn < s.ids → (HasRoom d id → ⊥) → IsOutcome s sends (Unchanged s (answer.No refusal.Line))
+      pub send_full : (numbers : List ℕ) → numbers ≡ queue_ids_at id (map name_of_row d.queues) → numbers ≢ [] → s.drawn < s.ids → (HasRoom d id → ⊥) → IsOutcome s sends (Unchanged s (answer.No refusal.Line))
       send_full [] same some left full = absurd (some refl)
       send_full (n ∷ ns) same some left full =
           refused s sends refusal.Line (by_room n ns same left ∙ ap (λ (c : Bool). if c then Some refusal.Line else None) (le-leb row.max (weight_at id d.journaled) (elim (cases_lt (weight_at id d.journaled) row.max) [
@@ -224,7 +239,7 @@ module _ (s : Kept) where
       abbrev add_entry : List ℕ → Entry
       add_entry numbers = entry.Add id numbers sent
 
-      sent_outcome : (n : ℕ) (ns : List ℕ) (t : Kept) (batch : List ℕ) → (n ∷ ns) ≡ numbers_at id (map name_of_row d.queues) → s.drawn < s.ids → HasRoom d id → rule_of d (add_entry (n ∷ ns)) ≡ None → HasFields (add_entry (n ∷ ns))
+      sent_outcome : (n : ℕ) (ns : List ℕ) (t : Kept) (batch : List ℕ) → (n ∷ ns) ≡ queue_ids_at id (map name_of_row d.queues) → s.drawn < s.ids → HasRoom d id → rule_of d (add_entry (n ∷ ns)) ≡ None → HasFields (add_entry (n ∷ ns))
           → t.durable ≡ changed d (add_entry (n ∷ ns)) → t.drawn ≡ s.drawn + 1 → t.ids ≡ s.ids → batch ≡ batch_bytes (add_entry (n ∷ ns) ∷ []) → AreRoomy t.durable → IsOutcome s sends (Changed t batch (answer.Sent (next_id b)))
       sent_outcome n ns t batch same left room condition fields now drawn ids bytes roomy =
           let accepted : refusal_of b sends ≡ None = by_room n ns same left ∙ ap (λ (c : Bool). if c then Some refusal.Line else None) (lt-leb row.max (weight_at id d.journaled) (room row at)) in
@@ -237,6 +252,7 @@ module _ (s : Kept) where
             record {
               entry = add_entry (n ∷ ns);
               accepted = accepted;
+              queue_id = λ no. no;
               batch_is = ap (λ (o : Option ℕ). option_map_or (λ place. batch_of_message b place body (routed place b.durable.queues)) o []) sent_to
                   ∙ (ap (λ (l : List ℕ). batch_of_message b (id - 1) body l) (goes ∙ sym same) ∙ ap (λ (k : ℕ). entry.Add k (n ∷ ns) sent ∷ []) place_then_one);
               applied = record { condition = condition; effect = now };
@@ -246,7 +262,7 @@ module _ (s : Kept) where
             },
           )
 
-      pub send_outcome : (numbers : List ℕ) (m : Message) (t : Kept) (batch : List ℕ) → m ≡ sent → numbers ≡ numbers_at id (map name_of_row d.queues) → numbers ≢ [] → s.drawn < s.ids → HasRoom d id
+      pub send_outcome : (numbers : List ℕ) (m : Message) (t : Kept) (batch : List ℕ) → m ≡ sent → numbers ≡ queue_ids_at id (map name_of_row d.queues) → numbers ≢ [] → s.drawn < s.ids → HasRoom d id
           → rule_of d (entry.Add id numbers m) ≡ None → HasFields (entry.Add id numbers m) → t.durable ≡ changed d (entry.Add id numbers m) → t.drawn ≡ s.drawn + 1 → t.ids ≡ s.ids → batch ≡ batch_bytes (entry.Add id numbers m ∷ []) → AreRoomy t.durable
           → IsOutcome s sends (Changed t batch (answer.Sent (next_id b)))
       send_outcome [] m t batch made same some left room condition fields now drawn ids bytes roomy = absurd (some refl)
@@ -267,15 +283,5 @@ module _ (s : Kept) where
           does b b (command.Count queue) reply (ap (λ (o : Option Queue). option_map_or (λ q. None) o (Some refusal.Queue)) found.2)
               (subst (λ (o : Option Queue). MatchOption o ⊥ (λ q. (reply ≡ answer.Count (length q.messages)) × (b ≡ b))) (sym found.2)
               (ap (λ (n : ℕ). answer.Count (length (held_by n d.journaled))) (sym found.1), refl)),
+          record { nothing = ap (λ (o : Option Refusal). unless_refused o []) (ap (λ (o : Option Queue). option_map_or (λ q. None) o (Some refusal.Queue)) found.2); queue_id = λ accepted no. no },
         )
-
--- each command in its range is one of the four that are built
-pub one_of_four : (c : Command) → IsInRange c → ((name : List ℕ) (max page ahead dup : ℕ) → c ≡ command.Address name max page ahead dup → ⊥)
-    → ((name address : List ℕ) (filter : Option (List ℕ)) → c ≡ command.Queue name address filter → ⊥)
-    → ((address : List ℕ) (tx : Option (List ℕ)) (id : Option (List ℕ)) (properties : List Property) (body : List ℕ) → c ≡ command.Send address tx id properties body → ⊥)
-    → ((queue : List ℕ) → c ≡ command.Count queue → ⊥) → ⊥
-one_of_four (command.Address name max page ahead dup) range no_address no_queue no_send no_count = no_address name max page ahead dup refl
-one_of_four (command.Queue name address filter) range no_address no_queue no_send no_count = no_queue name address filter refl
-one_of_four (command.Send address tx id properties body) range no_address no_queue no_send no_count = no_send address tx id properties body refl
-one_of_four (command.Count queue) range no_address no_queue no_send no_count = no_count queue refl
-one_of_four _ range no_address no_queue no_send no_count = range

@@ -8,7 +8,7 @@ use Rattle.pg_disk.specs.declared.fault.Rule.{Rule}
 use Rattle.pg_disk.specs.declared.file_id.FileId.{FileId}
 use Rattle.pg_disk.specs.declared.file_id.Kind.{Kind}
 use Rattle.pg_disk.specs.declared.file_id.Kind.TheVariants.{Journal as OfJournal, Page, Large}
-use Rattle.pg_disk.specs.Account.{FileState}
+use Rattle.pg_disk.specs.Account.{FileState, IsQuietAt, AllQuiet}
 use Rattle.pg_disk.specs.Files.{file_cmp, Files}
 use Rattle.pg_disk.specs.Image.{IsLeftAt}
 use Rattle.pg_gate.specs.Gated.{Batches, HasBatches, HasNone, RestsAt}
@@ -23,12 +23,13 @@ use Rattle.pg_fold.specs.Sound.{IsSound}
 use Rattle.pg_fold.proofs.SoundAddresses.{still_address}
 use Rattle.pg_fold.proofs.SoundLaws.{sound_folded}
 use Rattle.pg_journal.specs.declared.journal.Journal.{Journal}
-use Rattle.pg_journal.specs.Generations.{Contents, as_left, as_read, bytes_of, JournalOf}
-use Rattle.pg_journal.specs.Stands.{IsQuietAt, Stands, name_of}
+use Rattle.pg_journal.specs.Generations.{JournalOf}
+use Rattle.pg_disk.specs.Views.{Contents, as_left, as_read, bytes_of}
+use Rattle.pg_journal.specs.Stands.{Stands, name_of}
 use Rattle.pg_journal.proofs.Order.{same_or_not}
 use Rattle.pg_journal.proofs.Saying.{stands_reads, stands_there}
 use Rattle.pg_recover.specs.Denotation.{FoldsTo}
-use Rattle.pg_recover.specs.Recovered.{AllQuiet, Owns}
+use Rattle.pg_recover.specs.Recovered.{Owns}
 use Rattle.pg_recover.specs.WellFormed.{AreRoomy, IsGapless, IsNamed, IsNamedAs, IsThere, WellFormed, page_file}
 use Rattle.pg_recover.proofs.OneState.{one_folded}
 use Rattle.pg_recover.proofs.WellLemmas.{left_as_read}

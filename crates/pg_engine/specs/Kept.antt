@@ -26,7 +26,7 @@ IsDrawn epoch drawn id = (id.epoch < epoch) ⊎ ((id.epoch ≡ epoch) × (id.num
 
 -- a live queue as the routes name it
 abbrev pub name_of_row : QueueRow → QueueName
-name_of_row row = record { number = row.id; address = row.address; name = row.name }
+name_of_row row = record { id = row.id; address = row.address; name = row.name }
 
 -- the names of these addresses and queues
 abbrev pub names_of_rows : List AddressRow → List QueueRow → RouteNames
@@ -39,8 +39,8 @@ names_in d = names_of_rows d.addresses d.queues
 abbrev pub weights_in : Durable → List ℕ
 weights_in d = map (λ row. weight_at row.id d.journaled) d.addresses
 
--- What is true of the parts: the state is one that entries give, its messages have room and ids that were drawn, and the names and
--- the weights that are kept beside it are those in it.
+-- What is true of the parts: the state is one that entries give, its messages have room and ids that were drawn, and
+-- the names and the weights that are kept beside it are those in it.
 pub record IsFit (durable : Durable) (names : RouteNames) (weights : List ℕ) (drawn : ℕ) : Type 0 where
   pub sound : IsSound durable
   pub begun : 1 ≤ durable.epoch

@@ -8,9 +8,9 @@ use Rattle.indexmap.specs.IndexMap.{set_value_at}
 use Rattle.pg_engine.specs.declared.routes.AddressEntry.{AddressEntry}
 use Rattle.pg_engine.specs.declared.routes.QueueEntry.{QueueEntry}
 
--- a live queue: its number, the id of its address, and its name
+-- a live queue: its id, the id of its address, and its name
 pub record QueueName : Type 0 where
-  pub number : ℕ
+  pub id : ℕ
   pub address : ℕ
   pub name : List ℕ
 
@@ -23,14 +23,15 @@ pub record RouteNames : Type 0 where
 abbrev pub address_named : RouteNames → List ℕ → Option ℕ
 address_named names name = option_map (λ place. place + 1) (position (bytes_eq name) names.addresses)
 
--- the number of the queue of that name
+-- the id of the queue of that name
 abbrev pub queue_named : RouteNames → List ℕ → Option ℕ
-queue_named names name = option_map (λ q. q.number) (find (λ q. bytes_eq name q.name) names.queues)
+queue_named names name = option_map (λ q. q.id) (find (λ q. bytes_eq name q.name) names.queues)
 
--- the numbers of the queues of an address, in their order
-abbrev pub numbers_at : ℕ → List QueueName → List ℕ
-numbers_at address [] = []
-numbers_at address (q ∷ queues) = if q.address == address then q.number ∷ numbers_at address queues else numbers_at address queues
+-- the ids of the queues of an address, in their order
+abbrev pub queue_ids_at : ℕ → List QueueName → List ℕ
+queue_ids_at address [] = []
+queue_ids_at address (q ∷ queues) =
+    if q.address == address then q.id ∷ queue_ids_at address queues else queue_ids_at address queues
 
 -- an id is that of one of so many addresses
 abbrev pub IsId : ℕ → ℕ → Type 0
@@ -44,22 +45,25 @@ abbrev pub QueueEntries : Type 0
 QueueEntries = List (String Global × QueueEntry)
 
 abbrev pub queue_of : String Global × QueueEntry → QueueName
-queue_of e = record { number = e.1.number; address = e.1.address; name = string_bytes e.0 }
+queue_of e = record { id = e.1.id; address = e.1.address; name = string_bytes e.0 }
 
 abbrev pub names_of : AddressEntries → QueueEntries → RouteNames
 names_of addresses queues = record { addresses = map (λ e. string_bytes e.0) addresses; queues = map queue_of queues }
 
--- each address has its place for id, and lists the numbers of its queues, whose addresses are there
+-- each address has its place for id, and lists the ids of its queues, whose addresses are there
 pub record IsListing (addresses : AddressEntries) (queues : QueueEntries) : Type 0 where
   pub ids : (place : ℕ) (e : String Global × AddressEntry) → slice_get addresses place ≡ Some e → e.1.id ≡ place + 1
-  pub listed : (place : ℕ) (e : String Global × AddressEntry) → slice_get addresses place ≡ Some e → e.1.queues.items ≡ numbers_at (place + 1) (map queue_of queues)
+  pub listed : (place : ℕ) (e : String Global × AddressEntry) → slice_get addresses place ≡ Some e
+      → e.1.queues.items ≡ queue_ids_at (place + 1) (map queue_of queues)
   pub placed : All (λ q. IsId (length addresses) q.1.address) queues
 
--- the address with a number more in its list
+-- the address with a queue more in its list
 pub record Listed (number : ℕ) (old new : AddressEntry) : Type 0 where
   pub id : new.id ≡ old.id
   pub queues : new.queues.items ≡ old.queues.items ++ number ∷ []
 
--- the address at the place lists a number more
+-- the address at the place lists a queue more
 abbrev pub Lists : ℕ → ℕ → AddressEntries → AddressEntries → Type 0
-Lists place number es fs = (old : AddressEntry) × (new : AddressEntry) × (slice_get (values_of es) place ≡ Some old) × (fs ≡ set_value_at es place new) × Listed number old new
+Lists place number es fs =
+    (old : AddressEntry) × (new : AddressEntry) × (slice_get (values_of es) place ≡ Some old)
+    × (fs ≡ set_value_at es place new) × Listed number old new

@@ -1,12 +1,13 @@
 -- The states in which a broker is opened over files.
 use Rattle.std.specs.Prelude.{◌≡◌, ◌⊎◌, ℕ, List, Option}
-use Rattle.pg_disk.specs.Account.{Account, account, IsHonest}
+use Rattle.pg_disk.specs.Account.{Account, account, IsHonest, AllQuiet}
 use Rattle.pg_disk.specs.Files.{Files}
-use Rattle.pg_journal.specs.Generations.{as_read, as_left}
-use Rattle.pg_recover.specs.declared.opening.Parts.{Parts}
+use Rattle.pg_disk.specs.Meanings.{Either, LeavesMeaning}
+use Rattle.pg_disk.specs.Views.{as_read, as_left}
+use Rattle.pg_recover.specs.declared.recovering.Parts.{Parts}
 use Rattle.pg_recover.specs.Broker.{Broker, Durable, next_epoch, opened_from}
 use Rattle.pg_recover.specs.Denotation.{Denotes}
-use Rattle.pg_recover.specs.Recovered.{AllQuiet, IsBegun}
+use Rattle.pg_recover.specs.Recovered.{IsBegun}
 use Rattle.pg_recover.specs.WellFormed.{AreRoomy, WellFormed}
 use Rattle.pg_engine.specs.declared.engine.Engine.{Engine}
 use Rattle.pg_engine.specs.Executed.{StandsAt}
@@ -17,7 +18,8 @@ pub record IsOpened (ids : ℕ) (tells : Option Account) (first : Broker) : Type
   pub denoted : Denotes (as_read (account tells).files) durable
   pub opened : first ≡ opened_from ids durable
 
--- the engine stands for that state, and owns the files, of which nothing is pending and which are well formed if they were
+-- the engine stands for that state, and owns the files, of which nothing is pending and which are well formed if they
+-- were
 pub record OpensAt (ids : ℕ) (old new : Option Account) (engine : Engine) : Type 0 where
   pub first : Broker
   pub opened : IsOpened ids old first
@@ -25,12 +27,14 @@ pub record OpensAt (ids : ℕ) (old new : Option Account) (engine : Engine) : Ty
   pub quiet : AllQuiet (account new).files
   pub well : WellFormed (as_read (account old).files) → WellFormed (as_read (account new).files)
 
--- Nothing was told, and where that is asked, the files denote what they denoted, or that in the next epoch, and well formed files stay so.
-pub record LeavesEpoch (asked : Type 0) (tells : Option Account) (image : Files) (told : List ℕ) : Type 0 where
-  pub honest : IsHonest tells
-  pub nothing : told ≡ (account tells).told
-  pub denoted : asked → (d : Durable) → Denotes (as_read (account tells).files) d → Denotes (as_left image) d ⊎ Denotes (as_left image) (next_epoch d)
-  pub well : asked → WellFormed (as_read (account tells).files) → WellFormed (as_left image)
+-- the files denote what this makes of what they denoted, and well formed files stay so
+pub record DenotesAs (change : Durable → Durable) (tells : Option Account) (image : Files) : Type 0 where
+  pub denoted : (d : Durable) → Denotes (as_read (account tells).files) d → Denotes (as_left image) (change d)
+  pub well : WellFormed (as_read (account tells).files) → WellFormed (as_left image)
+
+-- What a crash within an opening leaves: what was denoted, or that in the next epoch, with nothing told.
+abbrev pub LeavesEpoch : Option Account → Files → List ℕ → Type 0
+LeavesEpoch = LeavesMeaning (Either (DenotesAs (λ d. d)) (DenotesAs next_epoch))
 
 -- what an engine is made of: a sound state in a new epoch, whose messages have room
 pub record AreParts (parts : Parts) : Type 0 where
@@ -39,4 +43,5 @@ pub record AreParts (parts : Parts) : Type 0 where
 
 -- the engine of these parts, which has drawn no id
 abbrev pub engine_of : ℕ → Parts → Engine
-engine_of ids parts = record { journal = parts.journal; state = record { durable = parts.durable; drawn = 0; ids = ids } }
+engine_of ids parts =
+    record { journal = parts.journal; state = record { durable = parts.durable; drawn = 0; ids = ids } }

@@ -2,9 +2,12 @@
 ghost use Rattle.std.specs.Prelude.{◌≡◌, ◌⊎◌, ◌<◌, ◌+◌, ◌^◌, Option, Some, IsErr, IfOk, IfErr, IsErrOf};
 ghost use Rattle.pg_disk.specs.Account.{account, IsHonest};
 ghost use Rattle.pg_disk.specs.Counts.{CountsFault};
+ghost use Rattle.pg_disk.specs.Sites.{Steps};
 ghost use Rattle.pg_msg.specs.Commands.{IsInRange};
 ghost use Rattle.pg_msg.specs.Replies.{IsBuilt};
-ghost use Rattle.pg_engine.specs.Executed.{Owns, Executes, IsDamaged, MeetsLimit, state_of};
+ghost use Rattle.pg_recover.specs.Broker.{Step};
+ghost use Rattle.pg_engine.specs.Executed.{Owns, Executes, IsDamaged, MeetsLimit, Writes, state_of};
+ghost use Rattle.pg_engine.specs.Outcomes.{written_by};
 ghost use Rattle.pg_engine.specs.Opened.{AreParts, engine_of};
 
 use crate::state::{Outcome, State};
@@ -41,7 +44,7 @@ impl Engine {
         Ok(Engine { journal, state })
     }
 
-    /// Executes a command. What it changes is on the disk at Ok. `Spent` comes where no queue number is left, and where the
+    /// Executes a command. What it changes is on the disk at Ok. `Spent` comes where no queue id is left, and where the
     /// journal would grow past its limit; `Failed` where the disk failed; `Memory` for want of memory; `Damaged` never.
     /// After an Err there is no engine any more.
     pub fn exec<D: Disk>(
@@ -52,12 +55,20 @@ impl Engine {
     ) -> Result<(Engine, Reply), Fault>
         requires own { IsHonest (D.tells disk.old) → Owns self (account (D.tells disk.old)).files }
         requires in_range { IsInRange command }
-        ensures executes { IsHonest (D.tells disk.old) → (IsErr result × (disk.new ≡ disk.old)) ⊎ Executes D.moment D.left_since D.tells (state_of self) (Some command) disk.old disk.new result }
+        ensures executes { IsHonest (D.tells disk.old) → (IsErr result × (disk.new ≡ disk.old))
+            ⊎ Executes D.Disk (state_of self) (Some command) disk.old disk.new result }
+        // The reply and the state are those of the step, on every site.
+        ensures steps { IfOk result (λ done. Step (state_of self) (Some command) done.1 (state_of done.0)) }
+        // The journal gets exactly the batch of the command.
+        ensures writes { IfOk result
+            (λ done. Steps D.Disk disk.old disk.new (Writes self.journal done.0.journal
+            (written_by (state_of self) command))) }
         ensures built { IfOk result (λ done. IsBuilt done.1) }
         ensures back { IsHonest (D.tells disk.new) → IsHonest (D.tells disk.old) }
         ensures never_damaged { IfErr result (λ fault. IsDamaged fault → ⊥) }
         ensures untouched { IsErrOf result Fault.Spent → disk.new ≡ disk.old }
         ensures limit { IsErrOf result Fault.Spent → MeetsLimit self command }
+        ensures limit_met { MeetsLimit self command → IsErrOf result Fault.Spent ⊎ IsErrOf result Fault.Memory }
         ensures cause { CountsFault (D.faults disk.old) (D.faults disk.new) result }
     {
         let Engine { journal, state } = self;

@@ -1,14 +1,14 @@
 // The names of the addresses and of the queues, and which queues an address has.
 ghost use Rattle.std.specs.Prelude.{◌≡◌, ◌<◌, ◌+◌, ◌++◌, ◌∷◌, [], length, None, IfOk, OnOk};
 ghost use Rattle.indexmap.specs.IndexMap.{index_map_len};
-ghost use Rattle.pg_engine.specs.Names.{IsId, Lists, address_named, queue_named, numbers_at};
+ghost use Rattle.pg_engine.specs.Names.{IsId, Lists, address_named, queue_named, queue_ids_at};
 
 use indexmap::IndexMap;
 use pg_bytes::Text;
 use std::alloc::{AllocError, Global};
 use std::marker::Model;
 
-// An address: its id, and the numbers of its queues.
+// An address: its id, and the ids of its queues.
 pub(crate) struct AddressEntry {
     pub(crate) id: u32,
     pub(crate) queues: Vec<u32>,
@@ -23,15 +23,15 @@ impl Drop for AddressEntry {
     }
 }
 
-// A queue: its number, and the id of its address.
+// A queue: its id, and the id of its address.
 #[derive(Clone, Copy, Debug, PartialEq, Eq)]
 pub(crate) struct QueueEntry {
-    pub(crate) number: u32,
+    pub(crate) id: u32,
     pub(crate) address: u32,
 }
 
-/// The addresses and the live queues by name, in the order of their making. A name is found without a walk over them, and so
-/// are the queues of an address. A call that takes them by value fails only for want of memory.
+/// The addresses and the live queues by name, in the order of their making. A name is found without a walk over them,
+/// and so are the queues of an address. A call that takes them by value fails only for want of memory.
 pub struct Routes {
     addresses: IndexMap<String, AddressEntry>,
     queues: IndexMap<String, QueueEntry>,
@@ -77,18 +77,18 @@ impl Routes {
         Some(address.id)
     }
 
-    /// The number of the queue of that name.
+    /// The id of the queue of that name.
     pub fn queue_id(&self, name: &Text) -> Option<u32>
         ensures { result ≡ queue_named self.now name.now }
     {
         let queue = self.queues.get(name.as_str())?;
-        Some(queue.number)
+        Some(queue.id)
     }
 
-    /// The numbers of the queues of the address with that id, in their order.
+    /// The ids of the queues of the address with that id, in their order.
     pub fn numbers(&self, address: u32) -> &[u32]
         requires { IsId (length self.now.addresses) address }
-        ensures { result.now ≡ numbers_at address self.now.queues }
+        ensures { result.now ≡ queue_ids_at address self.now.queues }
     {
         match self.addresses.get_index(address as usize - 1) {
             Some((_, entry)) => entry.queues.as_slice(),
@@ -116,18 +116,19 @@ impl Routes {
     }
 
     /// Adds a queue behind the others, to the address with that id.
-    pub fn add_queue(self, number: u32, address: u32, name: Text) -> Result<Routes, AllocError>
+    pub fn add_queue(self, id: u32, address: u32, name: Text) -> Result<Routes, AllocError>
         requires known { IsId (length self.addresses) address }
         requires new { queue_named self name ≡ None }
         ensures addresses { IfOk result (λ routes. routes.addresses ≡ self.addresses) }
-        ensures queues { IfOk result (λ routes. routes.queues ≡ self.queues ++ record { number = number; address = address; name = name } ∷ []) }
+        ensures queues { IfOk result
+            (λ routes. routes.queues ≡ self.queues ++ record { id = id; address = address; name = name } ∷ []) }
     {
         let Routes {
             mut addresses,
             mut queues,
         } = self;
-        list_at(&mut addresses, address as usize - 1, number)?;
-        queues.insert(name.into_string(), QueueEntry { number, address })?;
+        list_at(&mut addresses, address as usize - 1, id)?;
+        queues.insert(name.into_string(), QueueEntry { id, address })?;
         Ok(Routes { addresses, queues })
     }
 }

@@ -10,30 +10,24 @@ ghost use Rattle.pg_recover.specs.Denotation.{held_by};
 ghost use Rattle.pg_recover.specs.Recovered.{IsBegun};
 ghost use Rattle.pg_recover.specs.WellFormed.{AreRoomy};
 ghost use Rattle.pg_engine.specs.Kept.{HasRoom, name_of_row, names_in, names_of_rows};
-ghost use Rattle.pg_engine.specs.Names.{IsId, address_named, numbers_at};
+ghost use Rattle.pg_engine.specs.Names.{IsId, address_named, queue_ids_at};
 ghost use Rattle.pg_engine.specs.Outcomes.{IsOutcome, IsNoOutcome, TellsBuilt};
 
 use crate::routes::Routes;
 use pg_bytes::{Octets, Text};
 use pg_disk::Fault;
-use pg_fold::{AddressRow, Durable, FoldError, JournaledRow, QueueRow};
-use pg_msg::{Body, Command, Message, MessageId, Properties, QueueIds, Refusal, Reply, weight};
+use pg_fold::{AddressRow, Durable, JournaledRow, QueueRow};
+use pg_msg::{
+    Body, Command, MOST_ADDRESSES, MOST_QUEUES, Message, MessageId, Properties, QUEUE_ID_LIMIT,
+    QueueIds, Refusal, Reply, weight,
+};
 use pg_records::{Entry, encode_batch};
 use pg_recover::weights_by_address;
 use std::alloc::{AllocError, Global};
 use std::marker::Model;
 
-/// There are at most so many addresses.
-const MOST_ADDRESSES: usize = 1000;
-
-/// An address has at most so many queues.
-const MOST_QUEUES: usize = 1000;
-
-/// No queue has this number or a greater one.
-const QUEUE_NUMBERS: u32 = 4_294_967_295;
-
-/// The settings of an address: `max` and `ahead` in bytes of messages, `page` in bytes of a page file, `dup` as a count of
-/// duplicate ids.
+/// The settings of an address: `max` and `ahead` in bytes of messages, `page` in bytes of a page file, `dup` as a count
+/// of duplicate ids.
 #[derive(Clone, Copy, Debug, PartialEq, Eq)]
 pub struct Settings {
     pub max: u64,
@@ -42,8 +36,8 @@ pub struct Settings {
     pub dup: u32,
 }
 
-/// The state of the broker in memory: the folded state, the names in it by hash, the bytes of the messages of each address,
-/// and the ids that were drawn.
+/// The state of the broker in memory: the folded state, the names in it by hash, the bytes of the messages of each
+/// address, and the ids that were drawn.
 pub struct State {
     durable: Durable,
     routes: Routes,
@@ -140,14 +134,32 @@ impl State {
             Command::Send { address, body, .. } => self.send(alloc, address, body),
             Command::Count { queue } => Ok(self.count(queue)),
             // No other command is built.
-            _ => Ok(self.unchanged(Reply::No(Refusal::Line))),
+            Command::DropQueue { .. }
+            | Command::Begin { .. }
+            | Command::Commit { .. }
+            | Command::Rollback { .. }
+            | Command::Consumer { .. }
+            | Command::Receive { .. }
+            | Command::Ack { .. }
+            | Command::Cancel { .. }
+            | Command::Close { .. }
+            | Command::Large { .. }
+            | Command::Part { .. }
+            | Command::End { .. }
+            | Command::PartOf { .. }
+            | Command::Cleanup { .. }
+            | Command::Ahead { .. }
+            | Command::Checkpoint
+            | Command::Stat { .. } => Ok(self.unchanged(Reply::No(Refusal::Line))),
         }
     }
 
     // The command `address`.
     fn add_address(self, alloc: Global, name: Text, settings: Settings) -> Result<Outcome, Fault>
         requires { IsInRange (Command.Address name settings.max settings.page settings.ahead settings.dup) }
-        ensures outcome { IfOk result (λ outcome. IsOutcome self (Command.Address name settings.max settings.page settings.ahead settings.dup) outcome) }
+        ensures outcome { IfOk result
+            (λ outcome. IsOutcome self
+            (Command.Address name settings.max settings.page settings.ahead settings.dup) outcome) }
         ensures built { IfOk result TellsBuilt }
         ensures none { IfErr result (λ fault. fault ≡ Fault.Memory) }
     {
@@ -204,7 +216,7 @@ impl State {
             return Ok(self.unchanged(Reply::No(Refusal::Line)));
         }
         let queue = self.durable.next;
-        if queue >= QUEUE_NUMBERS {
+        if queue >= QUEUE_ID_LIMIT {
             return Err(Fault::Spent);
         }
         let State {
@@ -261,13 +273,14 @@ impl State {
         body: Octets,
     ) -> Result<Outcome, Fault>
         requires known { IsId (length self.durable.addresses) address }
-        requires routed { queues ≡ numbers_at address (names_in self.durable).queues }
+        requires routed { queues ≡ queue_ids_at address (names_in self.durable).queues }
         requires some { queues ≢ [] }
         requires in_range { All (λ queue. queue < 2 ^ 32) queues }
         requires short { length body ≤ longest_body }
         requires left { self.drawn < self.ids }
         requires room { HasRoom self.durable address }
-        ensures outcome { IfOk result (λ outcome. (name : List ℕ) → address_named (names_in self.durable) name ≡ Some address → IsOutcome self (sending name body) outcome) }
+        ensures outcome { IfOk result (λ outcome. (name : List ℕ)
+            → address_named (names_in self.durable) name ≡ Some address → IsOutcome self (sending name body) outcome) }
         ensures built { IfOk result TellsBuilt }
         ensures none { IfErr result (λ fault. fault ≡ Fault.Memory) }
     {
@@ -305,7 +318,8 @@ impl State {
         })
     }
 
-    // Whether the address with that id has room in memory for a further message: its messages have fewer bytes than its `max`.
+    // Whether the address with that id has room in memory for a further message: its messages have fewer bytes than its
+    // `max`.
     fn has_room(&self, address: u32) -> bool
         requires { IsId (length self.now.durable.addresses) address }
         ensures { IsTrue result ↔ HasRoom self.now.durable address }
@@ -394,12 +408,8 @@ fn record_entry(alloc: Global, durable: Durable, entry: Entry) -> Result<(Durabl
     ensures none { IfErr result (λ fault. fault ≡ Fault.Memory) }
 {
     let batch = encode_batch(alloc, std::slice::from_ref(&entry))?;
-    match durable.apply(alloc, entry) {
-        Ok(durable) => Ok((durable, batch)),
-        Err(FoldError::Memory) => Err(Fault::Memory),
-        // Its condition holds.
-        Err(FoldError::Broken(_)) => unreachable!(),
-    }
+    let durable = durable.change(alloc, entry)?;
+    Ok((durable, batch))
 }
 
 // A message with a body alone.

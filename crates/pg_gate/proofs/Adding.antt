@@ -1,16 +1,18 @@
 -- One write behind the closed gate, and a piece that is added.
 use Rattle.std.proofs.Common.{◌≡◌, inl, ℕ, ◌+◌, ◌≤◌, ◌<◌, List, ◌++◌, length, Bool, true, Option, Some, None, refl, sym, subst, arith, length-append}
 use Rattle.std.specs.FinMap.{get}
+use Rattle.pg_disk.specs.declared.disk.Disk.{Ghosts}
 use Rattle.pg_disk.specs.declared.file_id.FileId.{FileId}
-use Rattle.pg_disk.specs.Files.{Files}
-use Rattle.pg_disk.specs.Account.{FileState, Account, account, IsHonest}
+use Rattle.pg_disk.specs.Account.{FileState, account, IsHonest}
 use Rattle.pg_disk.specs.Image.{IsLeftAt, Leaves, LeavesAt}
-use Rattle.pg_disk.specs.Moments.{Elapses, Within}
+use Rattle.pg_disk.specs.Elapsing.{Elapses}
+use Rattle.pg_disk.specs.Moments.{Within}
 use Rattle.pg_disk.specs.Calls.{Changes, ChangesFile, There, Wrote, Holds}
-use Rattle.pg_disk.proofs.Runs.{goes_on, Since, since_then, left_at}
+use Rattle.pg_disk.proofs.Composing.{goes_on}
+use Rattle.pg_disk.proofs.Runs.{Since, since_then, left_at}
 use Rattle.pg_disk.proofs.Bytes.{holds_join, holds_beside}
 use Rattle.pg_gate.specs.Gated.{Fills, IsFront, Keeps}
-use Rattle.pg_gate.specs.declared.log.Filling.{Filling}
+use Rattle.pg_gate.specs.declared.fill.Filling.{Filling}
 use Rattle.pg_gate.proofs.Sealing.{front_left, front_beside}
 
 module _ (filling : Filling) (at : ℕ) (bytes : List ℕ) (behind : filling.gate < at) where
@@ -38,9 +40,9 @@ is_added self filling bytes n (Some s) (Some t) gate size place on was step batc
 
 -- the write of `add`, after the place of the length is made
 module _ (self filling : Filling) (bytes : List ℕ) (n : ℕ) (place_gate : filling.gate ≡ self.gate) (place_length : filling.length ≡ self.length) (on : filling.started ≡ true) (n_is : n ≡ self.gate + 9 + self.length)
-    {D : Type 0} (moment : D → ℕ) (left_since : D → ℕ → Files → List ℕ → Type 0) (tells : D → Option Account) (id : FileId) (old mid : D)
-    (run : Within moment left_since old mid (LeavesAt id (Keeps self (get (account (tells old)).files id)) (tells old)))
-    (placed : Since id (tells old) (λ s t. (batches : List (List ℕ)) (piece : List ℕ) → Fills self batches piece s → Fills filling batches piece t) (tells mid)) where
+    {D : Type 0} (m : Ghosts D) (id : FileId) (old mid : D)
+    (run : Within m old mid (LeavesAt id (Keeps self)))
+    (placed : Since id (m.tells old) (λ s t. (batches : List (List ℕ)) (piece : List ℕ) → Fills self batches piece s → Fills filling batches piece t) (m.tells mid)) where
   abbrev Moved : Option FileState → Option FileState → Type 0
   Moved s t = (batches : List (List ℕ)) (piece : List ℕ) → Fills self batches piece s → Fills filling batches piece t
 
@@ -50,27 +52,27 @@ module _ (self filling : Filling) (bytes : List ℕ) (n : ℕ) (place_gate : fil
   abbrev Now : Bool → Option FileState → Option FileState → Type 0
   Now ok s u = (t : Option FileState) × Moved s t × Writes ok t u
 
-  here : (ok : Bool) (new : D) → Changes (tells mid) (tells new) (ChangesFile id (Writes ok)) → Since id (tells old) (Now ok) (tells new)
-  here ok new step = since_then id (tells old) (tells mid) (tells new) Moved (Writes ok) (Now ok) placed step (λ _ r s t one two _. (s, one, two))
+  here : (ok : Bool) (new : D) → Changes (m.tells mid) (m.tells new) (ChangesFile id (Writes ok)) → Since id (m.tells old) (Now ok) (m.tells new)
+  here ok new step = since_then id (m.tells old) (m.tells mid) (m.tells new) Moved (Writes ok) (Now ok) placed step (λ _ r s t one two _. (s, one, two))
 
-  pub in_write : (ok : Bool) (new : D) → Elapses (moment mid) (moment new) (left_since mid) (left_since new) (Leaves (tells new)) → Changes (tells mid) (tells new) (ChangesFile id (Writes ok))
-      → Within moment left_since old new (LeavesAt id (Keeps self (get (account (tells old)).files id)) (tells old))
-  in_write ok new time step = goes_on moment left_since old mid new _ _ run time
-      (left_at id (tells old) (tells new) (Now ok) (Keeps self (get (account (tells old)).files id)) (here ok new step)
+  pub in_write : (ok : Bool) (new : D) → Elapses (m.moment mid) (m.moment new) (m.left_since mid) (m.left_since new) (Leaves (m.tells new)) → Changes (m.tells mid) (m.tells new) (ChangesFile id (Writes ok))
+      → Within m old new (LeavesAt id (Keeps self))
+  in_write ok new time step = goes_on m old mid new (LeavesAt id (Keeps self)) _ run time
+      (left_at id (m.tells old) (m.tells new) (Now ok) (Keeps self) (here ok new step)
       (λ u left steps is batches piece fills. write_left filling n bytes (omega (arith, n_is, place_gate)) ok steps.0 u left steps.2 is batches piece (steps.1 batches piece fills)))
 
-  pub can_write : (IsHonest (tells old) → (batches : List (List ℕ)) × (piece : List ℕ) × Fills self batches piece (get (account (tells old)).files id))
-      → IsHonest (tells mid) → (s : FileState) × (get (account (tells mid)).files id ≡ Some s) × (n ≤ length s.bytes)
+  pub can_write : (IsHonest (m.tells old) → (batches : List (List ℕ)) × (piece : List ℕ) × Fills self batches piece (get (account (m.tells old)).files id))
+      → IsHonest (m.tells mid) → (s : FileState) × (get (account (m.tells mid)).files id ≡ Some s) × (n ≤ length s.bytes)
   can_write filled h =
       let f = filled (placed.back h) in
-      room (get (account (tells mid)).files id) refl f.0 f.1 ((placed.step (placed.back h)).file f.0 f.1 f.2)
+      room (get (account (m.tells mid)).files id) refl f.0 f.1 ((placed.step (placed.back h)).change f.0 f.1 f.2)
     where
-      room : (o : Option FileState) → get (account (tells mid)).files id ≡ o → (batches : List (List ℕ)) (piece : List ℕ) → Fills filling batches piece o → (s : FileState) × (get (account (tells mid)).files id ≡ Some s) × (n ≤ length s.bytes)
+      room : (o : Option FileState) → get (account (m.tells mid)).files id ≡ o → (batches : List (List ℕ)) (piece : List ℕ) → Fills filling batches piece o → (s : FileState) × (get (account (m.tells mid)).files id ≡ Some s) × (n ≤ length s.bytes)
       room None is batches piece fills = absurd fills
       room (Some s) is batches piece fills = (s, is, omega (arith, (fills.there on).within, fills.size, n_is, place_gate, place_length))
 
-  pub all_added : (last : Filling) (new : D) → last.gate ≡ filling.gate → last.length ≡ filling.length + length bytes → last.started ≡ true → Changes (tells mid) (tells new) (ChangesFile id (Writes true))
-      → Since id (tells old) (λ s t. (batches : List (List ℕ)) (piece : List ℕ) → Fills self batches piece s → Fills last batches (piece ++ bytes) t) (tells new)
+  pub all_added : (last : Filling) (new : D) → last.gate ≡ filling.gate → last.length ≡ filling.length + length bytes → last.started ≡ true → Changes (m.tells mid) (m.tells new) (ChangesFile id (Writes true))
+      → Since id (m.tells old) (λ s t. (batches : List (List ℕ)) (piece : List ℕ) → Fills self batches piece s → Fills last batches (piece ++ bytes) t) (m.tells new)
   all_added last new gate size going step =
-      since_then id (tells old) (tells mid) (tells new) Moved (Writes true) (λ s t. (batches : List (List ℕ)) (piece : List ℕ) → Fills self batches piece s → Fills last batches (piece ++ bytes) t) placed step
+      since_then id (m.tells old) (m.tells mid) (m.tells new) Moved (Writes true) (λ s t. (batches : List (List ℕ)) (piece : List ℕ) → Fills self batches piece s → Fills last batches (piece ++ bytes) t) placed step
       (λ _ r s t one two _ batches piece fills. is_added filling last bytes n s t gate size (omega (arith, n_is, place_gate, place_length)) going on two batches piece (one batches piece fills))

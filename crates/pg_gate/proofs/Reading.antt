@@ -1,31 +1,27 @@
 -- Calls that only read.
 use Rattle.std.proofs.Common.{◌≡◌, ℕ, ◌+◌, List, length, Option, Result, Ok, Err, OnErr, refl, ◌∙◌, ap, subst, arith}
 use Rattle.std.specs.FinMap.{get}
+use Rattle.pg_disk.specs.declared.disk.Disk.{Ghosts}
 use Rattle.pg_disk.specs.declared.file_id.FileId.{FileId}
 use Rattle.pg_disk.specs.declared.fault.Fault.{Fault}
 use Rattle.pg_disk.specs.declared.fault.Fault.TheVariants.{Failed, Damaged, Spent, Memory}
 use Rattle.pg_disk.specs.Files.{Files}
 use Rattle.pg_disk.specs.Account.{Account, account, IsHonest}
 use Rattle.pg_disk.specs.Image.{IsImage, IsFileThere, Leaves}
-use Rattle.pg_disk.specs.Moments.{Elapses, Within}
+use Rattle.pg_disk.specs.Elapsing.{Elapses}
+use Rattle.pg_disk.specs.Moments.{Within}
 use Rattle.pg_disk.specs.Calls.{Changes, Reads}
-use Rattle.pg_disk.proofs.Runs.{started, goes_on, then_run}
-use Rattle.pg_gate.specs.Spans.{AsRead, IsCut, IsCutFault, IsNotSpent, ReadsWithin}
+use Rattle.pg_disk.proofs.Composing.{changes_none, changes_then, started, goes_on, then_run}
+use Rattle.pg_gate.specs.Spans.{AsRead, IsCut, IsCutFault, IsFailedOrDamaged, IsNotSpent, ReadsWithin}
 
 -- nothing was read yet
 pub no_reads : (tells : Option Account) → Changes tells tells (Reads 0)
-no_reads tells = record { kept = λ h. h; back = λ h. h; step = λ h. record { files = refl; told = refl; taken = omega arith } }
+no_reads tells = changes_none tells (Reads 0) (λ h. record { files = refl; told = refl; taken = omega arith })
 
 -- more is read
 pub reads_then : (old mid new : Option Account) (n m : ℕ) → Changes old mid (Reads n) → Changes mid new (Reads m) → Changes old new (Reads (n + m))
-reads_then old mid new n m first second = record {
-  kept = λ h. second.kept (first.kept h);
-  back = λ h. first.back (second.back h);
-  step = λ h.
-      let a = first.step h in
-      let b = second.step (first.kept h) in
-      record { files = b.files ∙ a.files; told = b.told ∙ a.told; taken = omega (arith, a.taken, b.taken) };
-}
+reads_then old mid new n m first second =
+    changes_then old mid new (Reads n) (Reads m) (Reads (n + m)) first second (λ h a b. record { files = b.files ∙ a.files; told = b.told ∙ a.told; taken = omega (arith, a.taken, b.taken) })
 
 -- what a crash leaves is what it left before
 pub reads_leave : (old new : Option Account) (n : ℕ) → Changes old new (Reads n) → (c : Files) (b : List ℕ) → Leaves new c b → Leaves old c b
@@ -45,14 +41,14 @@ still_there file old new n change there h =
     (is.0, ap (λ m. get m file) (change.step h0).files ∙ is.1)
 
 -- the moments of a run that reads
-pub run_reads : {D : Type 0} (moment : D → ℕ) (left_since : D → ℕ → Files → List ℕ → Type 0) (tells : D → Option Account) (old mid new : D) (n : ℕ) → Changes (tells old) (tells mid) (Reads n)
-    → Within moment left_since old mid (Leaves (tells old)) → Within moment left_since mid new (Leaves (tells mid)) → Within moment left_since old new (Leaves (tells old))
-run_reads moment left_since tells old mid new n change first second = then_run moment left_since old mid new (Leaves (tells old)) (Leaves (tells mid)) first second (reads_leave (tells old) (tells mid) n change)
+pub run_reads : {D : Type 0} (m : Ghosts D) (old mid new : D) (n : ℕ) → Changes (m.tells old) (m.tells mid) (Reads n)
+    → Within m old mid Leaves → Within m mid new Leaves → Within m old new Leaves
+run_reads m old mid new n change first second = then_run m old mid new Leaves Leaves first second (reads_leave (m.tells old) (m.tells mid) n change)
 
 -- one call that reads is a run
-pub one_read : {D : Type 0} (moment : D → ℕ) (left_since : D → ℕ → Files → List ℕ → Type 0) (tells : D → Option Account) (old new : D) → ((c : Files) (b : List ℕ) → left_since old (moment old) c b → Leaves (tells old) c b)
-    → Elapses (moment old) (moment new) (left_since old) (left_since new) (Leaves (tells old)) → Within moment left_since old new (Leaves (tells old))
-one_read moment left_since tells old new law time = goes_on moment left_since old old new (Leaves (tells old)) _ (started moment left_since old (Leaves (tells old)) law) time (λ c b left. left)
+pub one_read : {D : Type 0} (m : Ghosts D) (old new : D) → ((c : Files) (b : List ℕ) → m.left_since old (m.moment old) c b → Leaves (m.tells old) c b)
+    → Elapses (m.moment old) (m.moment new) (m.left_since old) (m.left_since new) (Leaves (m.tells old)) → Within m old new Leaves
+one_read m old new law time = goes_on m old old new Leaves _ (started m old Leaves law) time (λ c b left. left)
 
 -- what is said of where a file is cut
 pub cut_weaker : (file : FileId) (P Q : ℕ → Type 0) (e : Fault) → ((at : ℕ) → P at → Q at) → IsCutFault file P e → IsCutFault file Q e
@@ -67,6 +63,12 @@ failed_unspent = λ e. cc
 
 pub memory_unspent : IsNotSpent Memory
 memory_unspent = λ e. cc
+
+pub failed_or_damaged : (e : Fault) → IsFailedOrDamaged e → IsNotSpent e
+failed_or_damaged Failed is = failed_unspent
+failed_or_damaged (Damaged damage) is = λ e. cc
+failed_or_damaged Spent is = absurd is
+failed_or_damaged Memory is = absurd is
 
 -- no byte was read before it was given up
 pub none_within : {T E : Type 0} (result : Result T E) (file : FileId) (old new : Option Account) → Changes old new (Reads 0) → OnErr result (AsRead file old (λ bytes. ReadsWithin bytes (account old) (account new)))

@@ -6,9 +6,9 @@ use Rattle.std.specs.Int.{to_be_bytes, w64}
 use Rattle.pg_disk.specs.Account.{FileState, IsQuiet}
 use Rattle.pg_disk.specs.Image.{IsIn, IsLeft}
 use Rattle.pg_disk.specs.Calls.{Holds, Wrote, Synced}
-use Rattle.pg_disk.proofs.Bytes.{holds_front, holds_join, holds_none, holds_one, holds_all, holds_beside, holds_left}
+use Rattle.pg_disk.proofs.Bytes.{holds_back, holds_front, holds_join, holds_none, holds_one, holds_all, holds_beside, holds_left}
 use Rattle.pg_gate.specs.Gated.{opened, Batches, HasOldOrNew, IsFront, IsAtRest, IsFilled, IsStaged}
-use Rattle.pg_gate.specs.declared.log.Filling.{Filling}
+use Rattle.pg_gate.specs.declared.fill.Filling.{Filling}
 
 pub length-number : (n : ℕ) → length (to_be_bytes w64 n) ≡ 8
 length-number n = refl
@@ -117,7 +117,7 @@ gate_left gate batches piece ok a b left staged wrote is =
 
 -- once it is on the disk
 pub at_rest_again : (gate : ℕ) (batches : List (List ℕ)) (piece : List ℕ) (a b c : FileState) → IsStaged gate batches piece a → Wrote gate (1 ∷ []) true a b → Synced true b c
-    → IsAtRest (gate + 9 + length piece) (batches ++ piece ∷ []) c
+    → IsAtRest (gate + 9 + length piece) (batches ++ piece ∷ []) c × (get_or c.bytes (gate + 9 + length piece) 0 ≡ 0)
 at_rest_again gate batches piece a b c staged wrote synced =
     let tail = to_be_bytes w64 (length piece) ++ (piece ++ 0 ∷ []) in
     let before : Holds b.bytes 0 (opened batches) =
@@ -129,14 +129,18 @@ at_rest_again gate batches piece a b c staged wrote synced =
     let size : length (opened (batches ++ piece ∷ [])) ≡ gate + 9 + length piece = omega (arith, length-opened_push batches piece, staged.front.place) in
     let all : Holds c.bytes 0 (opened (batches ++ piece ∷ []) ++ 0 ∷ []) =
     subst (λ l. Holds l 0 (opened (batches ++ piece ∷ []) ++ 0 ∷ [])) (sym synced.bytes) (subst (λ l. Holds b.bytes 0 l) (sym (opened-push batches piece (0 ∷ []))) whole) in
-    record {
-      front = record {
-        closed = 0;
-        shut = omega arith;
-        holds = all;
-        place = sym size;
-        synced = omega (arith, done.0, all.within, ap length synced.bytes, length-append (opened (batches ++ piece ∷ [])) (0 ∷ []), size);
-        untouched = λ i le within. subst (λ rs. IsIn rs i) done.2 within;
-      };
-      quiet = quiet_synced b c synced;
-    }
+    let last : Holds c.bytes (gate + 9 + length piece) (0 ∷ []) = holds_back c.bytes (opened (batches ++ piece ∷ [])) (0 ∷ []) 0 (gate + 9 + length piece) (omega (arith, size)) all in
+    let shut : get_or c.bytes (gate + 9 + length piece) 0 ≡ 0 = ap (λ (j : ℕ). get_or c.bytes j 0) (omega arith) ∙ last.each 0 (omega arith) in (
+      record {
+        front = record {
+          closed = 0;
+          shut = omega arith;
+          holds = all;
+          place = sym size;
+          synced = omega (arith, done.0, all.within, ap length synced.bytes, length-append (opened (batches ++ piece ∷ [])) (0 ∷ []), size);
+          untouched = λ i le within. subst (λ rs. IsIn rs i) done.2 within;
+        };
+        quiet = quiet_synced b c synced;
+      },
+      shut,
+    )

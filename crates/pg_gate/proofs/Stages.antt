@@ -3,15 +3,18 @@ use Rattle.std.proofs.Common.{◌≡◌, inl, ℕ, ◌+◌, List, [], ◌∷◌,
 use Rattle.std.specs.FinMap.{get}
 use Rattle.std.specs.Int.{to_be_bytes, w64}
 use Rattle.pg_disk.specs.declared.fault.Failed.{Failed}
+use Rattle.pg_disk.specs.declared.disk.Disk.{Ghosts}
 use Rattle.pg_disk.specs.declared.file_id.FileId.{FileId}
 use Rattle.pg_disk.specs.Files.{Files}
 use Rattle.pg_disk.specs.Account.{FileState, Account, account, IsHonest}
 use Rattle.pg_disk.specs.Image.{IsLeftAt, Leaves, LeavesAt}
-use Rattle.pg_disk.specs.Moments.{Elapses, Within}
+use Rattle.pg_disk.specs.Elapsing.{Elapses}
+use Rattle.pg_disk.specs.Moments.{Within}
 use Rattle.pg_disk.specs.Calls.{Changes, ChangesFile, There, Wrote, Synced}
-use Rattle.pg_disk.proofs.Runs.{started, goes_on, then_run, Since, since_first, since_then, left_at, left_from, left_weaker, weaker}
-use Rattle.pg_gate.specs.Gated.{HasOldOrNew, RestsAt, Fills, Stages, Keeps}
-use Rattle.pg_gate.specs.declared.log.Filling.{Filling}
+use Rattle.pg_disk.proofs.Composing.{started, goes_on, then_run, weaker}
+use Rattle.pg_disk.proofs.Runs.{Since, since_first, since_then, left_at, left_from, left_weaker}
+use Rattle.pg_gate.specs.Gated.{Fills, Keeps, MayOpen, MaySeal, RestsClosed, Stages}
+use Rattle.pg_gate.specs.declared.fill.Filling.{Filling}
 use Rattle.pg_gate.proofs.Sealing.{front_left, front_beside, is_staged, gate_left, at_rest_again}
 
 -- one step and then another
@@ -57,43 +60,43 @@ module _ (filling : Filling) (number : List ℕ) (number_is : number ≡ to_be_b
   stages (Some s) (Some t) (Some u) None one two three batches piece fills = absurd three
   stages (Some s) (Some t) (Some u) (Some v) one two three batches piece fills = is_staged filling batches piece s t u v fills (subst (λ n. Wrote (filling.gate + 1) n true s t) number_is one) two three
 
-  module _ {D : Type 0} (moment : D → ℕ) (left_since : D → ℕ → Files → List ℕ → Type 0) (tells : D → Option Account) (id : FileId) (old : D)
-      (law : (c : Files) (b : List ℕ) → left_since old (moment old) c b → Leaves (tells old) c b) where
-    abbrev P : Files → List ℕ → Type 0
-    P = LeavesAt id (Keeps filling (get (account (tells old)).files id)) (tells old)
+  module _ {D : Type 0} (m : Ghosts D) (id : FileId) (old : D)
+      (law : (c : Files) (b : List ℕ) → m.left_since old (m.moment old) c b → Leaves (m.tells old) c b) where
+    abbrev P : Option Account → Files → List ℕ → Type 0
+    P = LeavesAt id (Keeps filling)
 
     abbrev Step : D → D → (Option FileState → Option FileState → Type 0) → Type 0
-    Step mid new step = Changes (tells mid) (tells new) (ChangesFile id step)
+    Step mid new step = Changes (m.tells mid) (m.tells new) (ChangesFile id step)
 
     abbrev Time : D → D → (Files → List ℕ → Type 0) → Type 0
-    Time mid new within = Elapses (moment mid) (moment new) (left_since mid) (left_since new) within
+    Time mid new within = Elapses (m.moment mid) (m.moment new) (m.left_since mid) (m.left_since new) within
 
-    pub at_first : Within moment left_since old old P
-    at_first = started moment left_since old P (λ c b left. left_at id (tells old) (tells old) (λ s t. t ≡ s) _ (since_first id (tells old) (λ s t. t ≡ s) (λ _. refl))
+    pub at_first : Within m old old P
+    at_first = started m old P (λ c b left. left_at id (m.tells old) (m.tells old) (λ s t. t ≡ s) (Keeps filling) (since_first id (m.tells old) (λ s t. t ≡ s) (λ _. refl))
         (λ s t same is. filled_left _ t (subst (λ u. IsLeftAt u t) same is)) c b (law c b left))
 
-    pub in_first : (ok : Bool) (one : D) → Time old one (Leaves (tells one)) → Step old one (First ok) → Within moment left_since old one P
-    in_first ok one time step = goes_on moment left_since old old one P _ at_first time (left_at id (tells old) (tells one) (First ok) _ step (λ s left. first_left ok _ s left))
+    pub in_first : (ok : Bool) (one : D) → Time old one (Leaves (m.tells one)) → Step old one (First ok) → Within m old one P
+    in_first ok one time step = goes_on m old old one P _ at_first time (left_at id (m.tells old) (m.tells one) (First ok) (Keeps filling) step (λ s left. first_left ok _ s left))
 
-    module _ (one : D) (one_time : Time old one (Leaves (tells one))) (one_step : Step old one (First true)) where
-      both : (ok : Bool) (two : D) → Step one two (Second ok) → Since id (tells old) (Then (First true) (Second ok)) (tells two)
-      both ok two step = since_both id (tells old) (tells one) (tells two) (First true) (Second ok) one_step step
+    module _ (one : D) (one_time : Time old one (Leaves (m.tells one))) (one_step : Step old one (First true)) where
+      both : (ok : Bool) (two : D) → Step one two (Second ok) → Since id (m.tells old) (Then (First true) (Second ok)) (m.tells two)
+      both ok two step = since_both id (m.tells old) (m.tells one) (m.tells two) (First true) (Second ok) one_step step
 
-      image : (ok : Bool) (two : D) → Step one two (Second ok) → (c : Files) (b : List ℕ) → Leaves (tells two) c b → P c b
-      image ok two step = left_at id (tells old) (tells two) (Then (First true) (Second ok)) _ (both ok two step) (λ s left steps. second_left ok _ steps.0 s left steps.1 steps.2)
+      image : (ok : Bool) (two : D) → Step one two (Second ok) → (c : Files) (b : List ℕ) → Leaves (m.tells two) c b → P (m.tells old) c b
+      image ok two step = left_at id (m.tells old) (m.tells two) (Then (First true) (Second ok)) (Keeps filling) (both ok two step) (λ s left steps. second_left ok _ steps.0 s left steps.1 steps.2)
 
-      pub in_second : (ok : Bool) (two : D) → Time one two (Leaves (tells two)) → Step one two (Second ok) → Within moment left_since old two P
-      in_second ok two time step = goes_on moment left_since old one two P _ (in_first true one one_time one_step) time (image ok two step)
+      pub in_second : (ok : Bool) (two : D) → Time one two (Leaves (m.tells two)) → Step one two (Second ok) → Within m old two P
+      in_second ok two time step = goes_on m old one two P _ (in_first true one one_time one_step) time (image ok two step)
 
-      module _ (two : D) (two_time : Time one two (Leaves (tells two))) (two_step : Step one two (Second true)) where
-        pub in_third : (three : D) → Time two three (Leaves (tells two)) → Within moment left_since old three P
-        in_third three time = goes_on moment left_since old two three P _ (in_second true two two_time two_step) time (image true two two_step)
+      module _ (two : D) (two_time : Time one two (Leaves (m.tells two))) (two_step : Step one two (Second true)) where
+        pub in_third : (three : D) → Time two three (Leaves (m.tells two)) → Within m old three P
+        in_third three time = goes_on m old two three P _ (in_second true two two_time two_step) time (image true two two_step)
 
         pub all_staged : {T : Type 0} (three : D) (result : Result T Failed) → Step two three (There (Synced (is_ok result)))
             → OnOk result (Step old three (λ s t. (batches : List (List ℕ)) (piece : List ℕ) → Fills filling batches piece s → Stages filling.gate batches piece t))
         all_staged three (Err e) last = tt
         all_staged three (Ok x) last =
-            since_then id (tells old) (tells two) (tells three) (Then (First true) (Second true)) (There (Synced true))
+            since_then id (m.tells old) (m.tells two) (m.tells three) (Then (First true) (Second true)) (There (Synced true))
             (λ s t. (batches : List (List ℕ)) (piece : List ℕ) → Fills filling batches piece s → Stages filling.gate batches piece t)
             (both true two two_step) last (λ _ r s t steps sync _. stages r steps.0 s t steps.1 steps.2 sync)
 
@@ -101,99 +104,93 @@ module _ (gate : ℕ) where
   abbrev Opens : Bool → Option FileState → Option FileState → Type 0
   Opens ok = There (Wrote gate (1 ∷ []) ok)
 
-  abbrev Chooses : Option FileState → Option (List ℕ) → Type 0
-  Chooses s left = (batches : List (List ℕ)) (piece : List ℕ) → Stages gate batches piece s → HasOldOrNew batches piece left
-
-  staged_left : (s : Option FileState) (left : Option (List ℕ)) → IsLeftAt s left → Chooses s left
+  staged_left : (s : Option FileState) (left : Option (List ℕ)) → IsLeftAt s left → MayOpen gate s left
   staged_left None left is batches piece staged = absurd staged
   staged_left (Some s) None is batches piece staged = absurd is
   staged_left (Some s) (Some left) is batches piece staged = inl (front_left gate batches s left staged.front is)
 
-  opens_left : (ok : Bool) (s t : Option FileState) (left : Option (List ℕ)) → Opens ok s t → IsLeftAt t left → Chooses s left
+  opens_left : (ok : Bool) (s t : Option FileState) (left : Option (List ℕ)) → Opens ok s t → IsLeftAt t left → MayOpen gate s left
   opens_left ok None t left step is batches piece staged = absurd staged
   opens_left ok (Some s) None left step is batches piece staged = absurd step
   opens_left ok (Some s) (Some t) None step is batches piece staged = absurd is
   opens_left ok (Some s) (Some t) (Some left) step is batches piece staged = gate_left gate batches piece ok s t left staged step is
 
-  rests : (s t u : Option FileState) → Opens true s t → There (Synced true) t u → (batches : List (List ℕ)) (piece : List ℕ) → Stages gate batches piece s → RestsAt (gate + 9 + length piece) (batches ++ piece ∷ []) u
+  rests : (s t u : Option FileState) → Opens true s t → There (Synced true) t u → (batches : List (List ℕ)) (piece : List ℕ) → Stages gate batches piece s → RestsClosed (gate + 9 + length piece) (batches ++ piece ∷ []) u
   rests None t u one two batches piece staged = absurd staged
   rests (Some s) None u one two batches piece staged = absurd one
   rests (Some s) (Some t) None one two batches piece staged = absurd two
   rests (Some s) (Some t) (Some u) one two batches piece staged = at_rest_again gate batches piece s t u staged one two
 
-  module _ {D : Type 0} (moment : D → ℕ) (left_since : D → ℕ → Files → List ℕ → Type 0) (tells : D → Option Account) (id : FileId) (old : D)
-      (law : (c : Files) (b : List ℕ) → left_since old (moment old) c b → Leaves (tells old) c b) where
-    abbrev O : Files → List ℕ → Type 0
-    O = LeavesAt id (Chooses (get (account (tells old)).files id)) (tells old)
+  module _ {D : Type 0} (m : Ghosts D) (id : FileId) (old : D)
+      (law : (c : Files) (b : List ℕ) → m.left_since old (m.moment old) c b → Leaves (m.tells old) c b) where
+    abbrev O : Option Account → Files → List ℕ → Type 0
+    O = LeavesAt id (MayOpen gate)
 
-    pub before_open : Within moment left_since old old O
-    before_open = started moment left_since old O (λ c b left. left_at id (tells old) (tells old) (λ s t. t ≡ s) _ (since_first id (tells old) (λ s t. t ≡ s) (λ _. refl))
+    pub before_open : Within m old old O
+    before_open = started m old O (λ c b left. left_at id (m.tells old) (m.tells old) (λ s t. t ≡ s) (MayOpen gate) (since_first id (m.tells old) (λ s t. t ≡ s) (λ _. refl))
         (λ s t same is. staged_left _ t (subst (λ u. IsLeftAt u t) same is)) c b (law c b left))
 
-    pub in_open : (ok : Bool) (one : D) → Elapses (moment old) (moment one) (left_since old) (left_since one) (Leaves (tells one)) → Changes (tells old) (tells one) (ChangesFile id (Opens ok))
-        → Within moment left_since old one O
-    in_open ok one time step = goes_on moment left_since old old one O _ before_open time (left_at id (tells old) (tells one) (Opens ok) _ step (λ s left. opens_left ok _ s left))
+    pub in_open : (ok : Bool) (one : D) → Elapses (m.moment old) (m.moment one) (m.left_since old) (m.left_since one) (Leaves (m.tells one)) → Changes (m.tells old) (m.tells one) (ChangesFile id (Opens ok))
+        → Within m old one O
+    in_open ok one time step = goes_on m old old one O _ before_open time (left_at id (m.tells old) (m.tells one) (Opens ok) (MayOpen gate) step (λ s left. opens_left ok _ s left))
 
-    module _ (one : D) (one_time : Elapses (moment old) (moment one) (left_since old) (left_since one) (Leaves (tells one))) (one_step : Changes (tells old) (tells one) (ChangesFile id (Opens true))) where
-      pub in_open_sync : (two : D) → Elapses (moment one) (moment two) (left_since one) (left_since two) (Leaves (tells one)) → Within moment left_since old two O
+    module _ (one : D) (one_time : Elapses (m.moment old) (m.moment one) (m.left_since old) (m.left_since one) (Leaves (m.tells one))) (one_step : Changes (m.tells old) (m.tells one) (ChangesFile id (Opens true))) where
+      pub in_open_sync : (two : D) → Elapses (m.moment one) (m.moment two) (m.left_since one) (m.left_since two) (Leaves (m.tells one)) → Within m old two O
       in_open_sync two time =
-          goes_on moment left_since old one two O _ (in_open true one one_time one_step) time (left_at id (tells old) (tells one) (Opens true) _ one_step (λ s left. opens_left true _ s left))
+          goes_on m old one two O _ (in_open true one one_time one_step) time (left_at id (m.tells old) (m.tells one) (Opens true) (MayOpen gate) one_step (λ s left. opens_left true _ s left))
 
-      pub all_opened : {T : Type 0} (two : D) (result : Result T Failed) → Changes (tells one) (tells two) (ChangesFile id (There (Synced (is_ok result))))
-          → OnOk result (Changes (tells old) (tells two) (ChangesFile id (λ s t. (batches : List (List ℕ)) (piece : List ℕ) → Stages gate batches piece s → RestsAt (gate + 9 + length piece) (batches ++ piece ∷ []) t)))
+      pub all_opened : {T : Type 0} (two : D) (result : Result T Failed) → Changes (m.tells one) (m.tells two) (ChangesFile id (There (Synced (is_ok result))))
+          → OnOk result (Changes (m.tells old) (m.tells two) (ChangesFile id (λ s t. (batches : List (List ℕ)) (piece : List ℕ) → Stages gate batches piece s → RestsClosed (gate + 9 + length piece) (batches ++ piece ∷ []) t)))
       all_opened two (Err e) step = tt
       all_opened two (Ok x) step =
-          since_then id (tells old) (tells one) (tells two) (Opens true) (There (Synced true))
-          (λ s t. (batches : List (List ℕ)) (piece : List ℕ) → Stages gate batches piece s → RestsAt (gate + 9 + length piece) (batches ++ piece ∷ []) t)
+          since_then id (m.tells old) (m.tells one) (m.tells two) (Opens true) (There (Synced true))
+          (λ s t. (batches : List (List ℕ)) (piece : List ℕ) → Stages gate batches piece s → RestsClosed (gate + 9 + length piece) (batches ++ piece ∷ []) t)
           one_step step (λ _ r s t one two _. rests r s t one two)
 
 -- `seal`: both, one after the other
-module _ (filling : Filling) {D : Type 0} (moment : D → ℕ) (left_since : D → ℕ → Files → List ℕ → Type 0) (tells : D → Option Account) (old : D)
-    (law : (c : Files) (b : List ℕ) → left_since old (moment old) c b → Leaves (tells old) c b) where
+module _ (filling : Filling) {D : Type 0} (m : Ghosts D) (old : D)
+    (law : (c : Files) (b : List ℕ) → m.left_since old (m.moment old) c b → Leaves (m.tells old) c b) where
   abbrev id : FileId
   id = filling.file
 
   abbrev s0 : Option FileState
-  s0 = get (account (tells old)).files id
+  s0 = get (account (m.tells old)).files id
 
-  abbrev Either : Option (List ℕ) → Type 0
-  Either left = (batches : List (List ℕ)) (piece : List ℕ) → Fills filling batches piece s0 → HasOldOrNew batches piece left
-
-  abbrev S : Files → List ℕ → Type 0
-  S = LeavesAt id Either (tells old)
+  abbrev S : Option Account → Files → List ℕ → Type 0
+  S = LeavesAt id (MaySeal filling)
 
   abbrev Staged : Option FileState → Option FileState → Type 0
   Staged s t = (batches : List (List ℕ)) (piece : List ℕ) → Fills filling batches piece s → Stages filling.gate batches piece t
 
-  in_old : (c : Files) (b : List ℕ) → LeavesAt id (Keeps filling s0) (tells old) c b → S c b
-  in_old = left_weaker id (tells old) (Keeps filling s0) Either (λ left keeps batches piece fills. inl (keeps batches piece fills))
+  in_old : (c : Files) (b : List ℕ) → LeavesAt id (Keeps filling) (m.tells old) c b → S (m.tells old) c b
+  in_old = left_weaker id (m.tells old) (Keeps filling) (MaySeal filling) (λ left keeps batches piece fills. inl (keeps batches piece fills))
 
-  pub nothing_done : Within moment left_since old old S
-  nothing_done = weaker moment left_since old old _ S (at_first filling (to_be_bytes w64 filling.length) refl moment left_since tells id old law) in_old
+  pub nothing_done : Within m old old S
+  nothing_done = weaker m old old (LeavesAt id (Keeps filling)) S (at_first filling (to_be_bytes w64 filling.length) refl m id old law) in_old
 
-  pub in_stage : (mid : D) → Within moment left_since old mid (LeavesAt id (Keeps filling s0) (tells old)) → Within moment left_since old mid S
-  in_stage mid run = weaker moment left_since old mid _ S run in_old
+  pub in_stage : (mid : D) → Within m old mid (LeavesAt id (Keeps filling)) → Within m old mid S
+  in_stage mid run = weaker m old mid (LeavesAt id (Keeps filling)) S run in_old
 
-  module _ (mid : D) (run : Within moment left_since old mid (LeavesAt id (Keeps filling s0) (tells old))) (staged : Since id (tells old) Staged (tells mid)) where
-    pub can_open : (IsHonest (tells old) → (batches : List (List ℕ)) × (piece : List ℕ) × Fills filling batches piece s0)
-        → IsHonest (tells mid) → (batches : List (List ℕ)) × (piece : List ℕ) × Stages filling.gate batches piece (get (account (tells mid)).files id)
+  module _ (mid : D) (run : Within m old mid (LeavesAt id (Keeps filling))) (staged : Since id (m.tells old) Staged (m.tells mid)) where
+    pub can_open : (IsHonest (m.tells old) → (batches : List (List ℕ)) × (piece : List ℕ) × Fills filling batches piece s0)
+        → IsHonest (m.tells mid) → (batches : List (List ℕ)) × (piece : List ℕ) × Stages filling.gate batches piece (get (account (m.tells mid)).files id)
     can_open filled h =
         let f = filled (staged.back h) in
-        (f.0, f.1, (staged.step (staged.back h)).file f.0 f.1 f.2)
+        (f.0, f.1, (staged.step (staged.back h)).change f.0 f.1 f.2)
 
-    pub in_opening : (new : D) → Within moment left_since mid new (LeavesAt id (Chooses filling.gate (get (account (tells mid)).files id)) (tells mid)) → Within moment left_since old new S
-    in_opening new later = then_run moment left_since old mid new S _ (in_stage mid run) later
-        (left_from id (tells old) (tells mid) Staged Either _ staged (λ holds left chooses batches piece fills. chooses batches piece (holds batches piece fills)))
+    pub in_opening : (new : D) → Within m mid new (LeavesAt id (MayOpen filling.gate)) → Within m old new S
+    in_opening new later = then_run m old mid new S (LeavesAt id (MayOpen filling.gate)) (in_stage mid run) later
+        (left_from id (m.tells old) (m.tells mid) Staged (MaySeal filling) (MayOpen filling.gate) staged (λ holds left chooses batches piece fills. chooses batches piece (holds batches piece fills)))
 
     pub all_sealed : (new : D) (gate : ℕ) → gate ≡ filling.gate + 9 + filling.length
-        → Since id (tells mid) (λ s t. (batches : List (List ℕ)) (piece : List ℕ) → Stages filling.gate batches piece s → RestsAt (filling.gate + 9 + length piece) (batches ++ piece ∷ []) t) (tells new)
-        → Since id (tells old) (λ s t. (batches : List (List ℕ)) (piece : List ℕ) → Fills filling batches piece s → RestsAt gate (batches ++ piece ∷ []) t) (tells new)
+        → Since id (m.tells mid) (λ s t. (batches : List (List ℕ)) (piece : List ℕ) → Stages filling.gate batches piece s → RestsClosed (filling.gate + 9 + length piece) (batches ++ piece ∷ []) t) (m.tells new)
+        → Since id (m.tells old) (λ s t. (batches : List (List ℕ)) (piece : List ℕ) → Fills filling batches piece s → RestsClosed gate (batches ++ piece ∷ []) t) (m.tells new)
     all_sealed new gate is opened =
-        since_then id (tells old) (tells mid) (tells new) Staged
-        (λ s t. (batches : List (List ℕ)) (piece : List ℕ) → Stages filling.gate batches piece s → RestsAt (filling.gate + 9 + length piece) (batches ++ piece ∷ []) t)
-        (λ s t. (batches : List (List ℕ)) (piece : List ℕ) → Fills filling batches piece s → RestsAt gate (batches ++ piece ∷ []) t)
+        since_then id (m.tells old) (m.tells mid) (m.tells new) Staged
+        (λ s t. (batches : List (List ℕ)) (piece : List ℕ) → Stages filling.gate batches piece s → RestsClosed (filling.gate + 9 + length piece) (batches ++ piece ∷ []) t)
+        (λ s t. (batches : List (List ℕ)) (piece : List ℕ) → Fills filling batches piece s → RestsClosed gate (batches ++ piece ∷ []) t)
         staged opened (λ _ r s t one two _ batches piece fills.
-        subst (λ (n : ℕ). RestsAt n (batches ++ piece ∷ []) t) (omega (arith, is, size r batches piece fills)) (two batches piece (one batches piece fills)))
+        subst (λ (n : ℕ). RestsClosed n (batches ++ piece ∷ []) t) (omega (arith, is, size r batches piece fills)) (two batches piece (one batches piece fills)))
       where
         size : (r : Option FileState) (batches : List (List ℕ)) (piece : List ℕ) → Fills filling batches piece r → filling.length ≡ length piece
         size None batches piece fills = absurd fills

@@ -1,23 +1,27 @@
--- How many bytes are read from gate to gate.
-use Rattle.std.proofs.Common.{◌≡◌, ℕ, ◌+◌, ◌*◌, ◌≤◌, ◌<◌, ◌-◌, List, [], ◌∷◌, ◌++◌, length, Option, Result, Ok, Err, OnErr, ap, arith, ◌∙◌, length-append}
+-- How many bytes are read from gate to gate, and where the payloads lie.
+use Rattle.std.proofs.Common.{◌≡◌, ℕ, ◌+◌, ◌*◌, ◌≤◌, ◌<◌, ◌-◌, List, [], ◌∷◌, ◌++◌, length, Option, Result, Ok, Err, OnErr, refl, ap, arith, ◌∙◌, length-append}
 use Rattle.std.proofs.lemmas.List.Sums.{sum_by_push}
 use Rattle.std.specs.FinMap.{get}
 use Rattle.pg_disk.specs.declared.file_id.FileId.{FileId}
 use Rattle.pg_disk.specs.Account.{Account, account}
 use Rattle.pg_disk.specs.Calls.{Changes, Reads}
 use Rattle.pg_gate.specs.declared.spans.Span.{Span}
-use Rattle.pg_gate.specs.Spans.{AsRead, ReadsGates, ReadsGateAt, ReadsWithin, payload_bytes}
+use Rattle.pg_gate.specs.Spans.{AsRead, LieBehind, Occupy, ReadsGates, ReadsGateAt, ReadsWithin}
 
 -- for each place so far at most a gate and a length were read
 abbrev pub ReadsSpans : List Span → Account → Account → Type 0
 ReadsSpans spans old new = new.taken ≤ old.taken + 9 * length spans
 
--- the gate stands behind the gates, lengths and payloads of these places
-abbrev pub StandsBehind : List Span → ℕ → Type 0
-StandsBehind spans gate = gate ≡ 9 * length spans + payload_bytes spans
+-- one payload more
+lie_more : (first gate : ℕ) (spans : List Span) (span : Span) → LieBehind first spans (gate + 1) → span.at ≡ gate + 9 → LieBehind first (spans ++ span ∷ []) (span.at + span.length + 1)
+lie_more first gate [] span lie at_is = (omega (arith, lie, at_is), refl)
+lie_more first gate (s ∷ spans) span lie at_is = (lie.0, lie_more (s.at + s.length) gate spans span lie.1 at_is)
 
-pub behind_more : (spans : List Span) (span : Span) (gate : ℕ) → StandsBehind spans gate → span.at ≡ gate + 9 → StandsBehind (spans ++ span ∷ []) (span.at + span.length)
-behind_more spans span gate stands at_is = omega (arith, stands, at_is, length-append spans (span ∷ []), sum_by_push (λ (s : Span). s.length) spans span)
+pub occupy_more : (spans : List Span) (span : Span) (gate : ℕ) → Occupy spans (gate + 1) → span.at ≡ gate + 9 → Occupy (spans ++ span ∷ []) (span.at + span.length + 1)
+occupy_more spans span gate occupy at_is = record {
+  lie = lie_more 0 gate spans span occupy.lie at_is;
+  sum = omega (arith, occupy.sum, at_is, length-append spans (span ∷ []), sum_by_push (λ (s : Span). s.length) spans span);
+}
 
 -- one place more
 pub spans_more : (file : FileId) (old mid new : Option Account) (n gate : ℕ) (spans : List Span) (span : Span) → Changes old mid (Reads n) → AsRead file old (λ _. ReadsSpans spans (account old) (account mid))
@@ -27,14 +31,14 @@ spans_more file old mid new n gate spans span change so_far next h s there =
     omega (arith, so_far h s there, gate_read.few, length-append spans (span ∷ []))
 
 -- the gate behind them
-pub gates_read : (file : FileId) (old mid new : Option Account) (n gate end : ℕ) (spans : List Span) → Changes old mid (Reads n) → StandsBehind spans gate → gate < end → AsRead file old (λ _. ReadsSpans spans (account old) (account mid))
+pub gates_read : (file : FileId) (old mid new : Option Account) (n gate end : ℕ) (spans : List Span) → Changes old mid (Reads n) → Occupy spans (gate + 1) → gate < end → AsRead file old (λ _. ReadsSpans spans (account old) (account mid))
     → AsRead file mid (λ bytes. ReadsGateAt bytes gate (account mid) (account new)) → AsRead file old (λ bytes. end ≡ length bytes → ReadsGates bytes spans (account old) (account new))
 gates_read file old mid new n gate end spans change stands within so_far next h s there end_is =
     let gate_read = next (change.kept h) s (ap (λ m. get m file) (change.step h).files ∙ there) in
     let before = so_far h s there in
     record {
       gates = omega (arith, before, gate_read.few);
-      outside = omega (arith, before, gate_read.within, stands, within, end_is);
+      outside = omega (arith, before, gate_read.within, stands.sum, within, end_is);
     }
 
 -- whatever it comes to, where it is an error

@@ -6,8 +6,8 @@ use Rattle.std.proofs.lemmas.List.{take_at, drop_at}
 use Rattle.std.proofs.lemmas.List.Elements.{All-cons}
 use Rattle.pg_disk.specs.Account.{FileState}
 use Rattle.pg_disk.specs.Image.{IsLeftAt}
-use Rattle.pg_gate.specs.Gated.{opened, Batches, HasBatches, AllFit, IsFront, StandsFor, counted_length}
-use Rattle.pg_gate.specs.declared.log.Rest.{Rest}
+use Rattle.pg_gate.specs.Gated.{opened, Batches, HasBatches, AllFit, IsFront, StandsClosed, StandsFor, counted_length}
+use Rattle.pg_gate.specs.declared.at_rest.Rest.{Rest}
 use Rattle.pg_gate.proofs.Sealing.{batches_from, front_left}
 
 -- equal texts of two parts each, of which the first are as long
@@ -108,3 +108,8 @@ stands_unique rest xs ys (Some s) these those =
 pub stands_length : (rest : Rest) (batches : List (List ℕ)) (s : Option FileState) → StandsFor rest batches s → counted_length rest ≡ length (opened batches) + 1
 stands_length rest batches None stands = absurd stands
 stands_length rest batches (Some s) stands = ap (λ (n : ℕ). n + 1) stands.front.place
+
+-- a file that is closed by a 0 is at rest
+pub closed_stands : (rest : Rest) (batches : List (List ℕ)) (s : Option FileState) → StandsClosed rest batches s → StandsFor rest batches s
+closed_stands rest batches None closed = absurd closed
+closed_stands rest batches (Some s) closed = closed.0

@@ -4,11 +4,14 @@ use Rattle.std.specs.Option.{SomeIff, unwrap_or}
 use Rattle.std.specs.Int.{to_be_bytes, from_be_bytes, w64}
 use Rattle.std.proofs.lemmas.Nat.{be_bytes_8}
 use Rattle.std.proofs.lemmas.List.{ext_get_or, get_or-take, get_or-drop, length-take-le, length-drop, append-nil, take_all, take_at, get_or_past}
-use Rattle.pg_disk.specs.Calls.{Holds, ReadsAt}
+use Rattle.pg_disk.specs.declared.file_id.FileId.{FileId}
+use Rattle.pg_disk.specs.Account.{Account}
+use Rattle.pg_disk.specs.Calls.{Changes, Holds, Reads, ReadsAt}
 use Rattle.pg_disk.proofs.Bytes.{holds_front, holds_back, holds_join, holds_none, holds_one, holds_all}
 use Rattle.pg_gate.specs.declared.spans.Span.{Span}
 use Rattle.pg_gate.specs.Gated.{opened, Batches, AllFit}
-use Rattle.pg_gate.specs.Spans.{spans_of, HasSpans, IsWholeAt, IsCutAt, IsSoFar, IsWalked, IsCut}
+use Rattle.pg_gate.specs.Spans.{spans_of, AsRead, HasSpans, IsWholeAt, IsCutAt, IsSoFar, IsWalked, IsCut}
+use Rattle.pg_gate.proofs.Reading.{as_read_before}
 use Rattle.pg_gate.proofs.Sealing.{opened-push, length-opened_push, batches_from}
 use Rattle.pg_gate.proofs.Unique.{back_of, front_of, tail_of, head_of, fits_first, fits_rest, same_length, opened_fit, batches_fit}
 
@@ -195,3 +198,15 @@ length_spelled (x ∷ xs) (Some v) n small some is nine =
   where
     cases_lt : (a b : ℕ) → (a < b) ⊎ (b ≤ a)
     cases_lt a b = grind arith
+
+-- a walk that goes on, ends or meets a cut batch, seen from its start
+module _ (file : FileId) (old mid : Option Account) (n gate end : ℕ) (spans : List Span) (change : Changes old mid (Reads n)) (so_far : AsRead file old (λ bytes. end ≡ length bytes → IsSoFar bytes gate spans)) where
+  pub cut_now : 1 < end → end < 2 ^ 64 → (at : ℕ) → (at ≡ gate) × AsRead file mid (λ bytes. end ≡ length bytes → IsCutAt bytes gate) → AsRead file old (λ bytes. end ≡ length bytes → IsCut bytes at)
+  cut_now long short at cut = λ honest s there end_is.
+      subst (λ (k : ℕ). IsCut s.bytes k) (sym cut.0)
+      (cut_file s.bytes gate spans (omega (arith, long, end_is)) (omega (arith, short, end_is)) (so_far honest s there end_is)
+      (as_read_before file old mid n (λ bytes. end ≡ length bytes → IsCutAt bytes gate) change cut.1 honest s there end_is))
+
+  pub more_now : (span : Span) → span.at ≡ gate + 9 → AsRead file mid (λ bytes. end ≡ length bytes → IsWholeAt bytes gate span.length) → AsRead file old (λ bytes. end ≡ length bytes → IsSoFar bytes (span.at + span.length) (spans ++ span ∷ []))
+  more_now span at_is next = λ honest s there end_is.
+      so_far_more s.bytes gate spans span (so_far honest s there end_is) (as_read_before file old mid n (λ bytes. end ≡ length bytes → IsWholeAt bytes gate span.length) change next honest s there end_is) at_is

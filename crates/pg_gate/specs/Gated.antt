@@ -1,5 +1,5 @@
 -- A file of batches behind gates.
-use Rattle.std.specs.Prelude.{◌≡◌, ◌≢◌, ◌⊎◌, ◌≤◌, ◌<◌, ◌+◌, ◌^◌, ℕ, List, [], ◌∷◌, ◌++◌, length, All}
+use Rattle.std.specs.Prelude.{◌≡◌, ◌≢◌, ◌⊎◌, ◌≤◌, ◌<◌, ◌+◌, ◌^◌, ℕ, List, [], ◌∷◌, ◌++◌, length, slice_index, All}
 use Rattle.std.specs.Prelude.{Option, Some, None, true, false}
 use Rattle.std.specs.Int.{to_be_bytes, w64}
 use Rattle.pg_disk.specs.declared.fault.Fault.{Fault}
@@ -8,8 +8,8 @@ use Rattle.pg_disk.specs.declared.file_id.FileId.{FileId}
 use Rattle.pg_disk.specs.Account.{FileState, IsQuiet}
 use Rattle.pg_disk.specs.Image.{IsIn}
 use Rattle.pg_disk.specs.Calls.{Holds}
-use Rattle.pg_gate.specs.declared.log.Rest.{Rest}
-use Rattle.pg_gate.specs.declared.log.Filling.{Filling}
+use Rattle.pg_gate.specs.declared.at_rest.Rest.{Rest}
+use Rattle.pg_gate.specs.declared.fill.Filling.{Filling}
 
 -- an open gate, a length and a payload for each batch
 abbrev pub opened : List (List ℕ) → List ℕ
@@ -55,6 +55,16 @@ abbrev pub RestsAt : ℕ → List (List ℕ) → Option FileState → Type 0
 RestsAt gate batches None = ⊥
 RestsAt gate batches (Some s) = IsAtRest gate batches s
 
+-- the same, and the closed gate is 0
+abbrev pub RestsClosed : ℕ → List (List ℕ) → Option FileState → Type 0
+RestsClosed gate batches None = ⊥
+RestsClosed gate batches (Some s) = IsAtRest gate batches s × (slice_index s.bytes gate ≡ 0)
+
+-- a file that is one closed gate, of which nothing is pending
+abbrev pub IsLaid : Option FileState → Type 0
+IsLaid None = ⊥
+IsLaid (Some s) = IsQuiet s × (s.bytes ≡ 0 ∷ [])
+
 -- a file of at most one byte, of which nothing is pending
 abbrev pub IsShort : Option FileState → Type 0
 IsShort None = ⊥
@@ -63,6 +73,10 @@ IsShort (Some s) = IsQuiet s × (length s.bytes ≤ 1)
 -- a gated file at rest stands for these batches, where this is the file
 abbrev pub StandsFor : Rest → List (List ℕ) → Option FileState → Type 0
 StandsFor rest batches s = RestsAt rest.gate batches s
+
+-- the same, and its closed gate is 0
+abbrev pub StandsClosed : Rest → List (List ℕ) → Option FileState → Type 0
+StandsClosed rest batches s = RestsClosed rest.gate batches s
 
 -- the batches stand in the file, and behind them what was added of the next one
 pub record IsFilled (filling : Filling) (batches : List (List ℕ)) (piece : List ℕ) (s : FileState) : Type 0 where
@@ -96,9 +110,35 @@ abbrev pub Keeps : Filling → Option FileState → Option (List ℕ) → Type 0
 Keeps filling s left =
     (batches : List (List ℕ)) (piece : List ℕ) → Fills filling batches piece s → HasBatches batches left
 
+-- what a crash leaves has the batches that the file at rest stands for
+abbrev pub KeepsAll : Rest → Option FileState → Option (List ℕ) → Type 0
+KeepsAll rest s left = (batches : List (List ℕ)) → StandsFor rest batches s → HasBatches batches left
+
+-- or it has this batch behind them
+abbrev pub MayGrow : Rest → List ℕ → Option FileState → Option (List ℕ) → Type 0
+MayGrow rest batch s left = (batches : List (List ℕ)) → StandsFor rest batches s → HasOldOrNew batches batch left
+
+-- the same where the batch was being filled
+abbrev pub MaySeal : Filling → Option FileState → Option (List ℕ) → Type 0
+MaySeal filling s left =
+    (batches : List (List ℕ)) (piece : List ℕ) → Fills filling batches piece s → HasOldOrNew batches piece left
+
+-- and where it stood whole behind the closed gate
+abbrev pub MayOpen : ℕ → Option FileState → Option (List ℕ) → Type 0
+MayOpen gate s left =
+    (batches : List (List ℕ)) (piece : List ℕ) → Stages gate batches piece s → HasOldOrNew batches piece left
+
+-- the file is changed anyhow
+abbrev pub Anyhow : Option FileState → Option FileState → Type 0
+Anyhow s t = Unit {0}
+
 -- the file's name
 abbrev pub file_of : Rest → FileId
 file_of rest = rest.file
+
+-- the offset of its closed gate
+abbrev pub gate_of : Rest → ℕ
+gate_of rest = rest.gate
 
 -- how many bytes of the file are counted: up to the closed gate, and with it
 abbrev pub counted_length : Rest → ℕ
@@ -107,6 +147,10 @@ counted_length rest = rest.gate + 1
 -- the name of the file that is filled
 abbrev pub file_filled : Filling → FileId
 file_filled filling = filling.file
+
+-- the offset of the closed gate before the batch
+abbrev pub gate_before : Filling → ℕ
+gate_before filling = filling.gate
 
 -- how many bytes of the file were counted when the batch was begun
 abbrev pub counted_before : Filling → ℕ

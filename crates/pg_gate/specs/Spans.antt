@@ -1,5 +1,6 @@
 -- Where the payloads of a gated file stand, and how a file is read.
-use Rattle.std.specs.Prelude.{◌≡◌, ◌≢◌, ◌⊎◌, ◌≤◌, ◌<◌, ◌+◌, ◌-◌, ◌*◌, ◌^◌, ℕ, List, [], ◌∷◌, length, slice_index, sum_by, Option, Some, None}
+use Rattle.std.specs.Prelude.{◌≡◌, ◌≢◌, ◌⊎◌, ◌≤◌, ◌<◌, ◌+◌, ◌-◌, ◌*◌, ◌^◌, ℕ, List, [], ◌∷◌, length}
+use Rattle.std.specs.Prelude.{slice_index, sum_by, Option, Some, None}
 use Rattle.std.specs.FinMap.{get}
 use Rattle.std.specs.Int.{to_be_bytes, w64}
 use Rattle.pg_disk.specs.declared.fault.Fault.{Fault}
@@ -7,15 +8,17 @@ use Rattle.pg_disk.specs.declared.fault.Fault.TheVariants.{Failed, Damaged, Spen
 use Rattle.pg_disk.specs.declared.fault.Rule.TheVariants.{Cut}
 use Rattle.pg_disk.specs.declared.file_id.FileId.{FileId}
 use Rattle.pg_disk.specs.Account.{FileState, Account, account, IsHonest, IsQuiet}
-use Rattle.pg_disk.specs.Calls.{Holds}
-use Rattle.pg_gate.specs.declared.log.Rest.{Rest}
+use Rattle.pg_disk.specs.Calls.{ChangesWhere, Holds, ReadsSome}
+use Rattle.pg_disk.specs.Image.{Only}
+use Rattle.pg_gate.specs.declared.at_rest.Rest.{Rest}
 use Rattle.pg_gate.specs.declared.spans.Span.{Span}
 use Rattle.pg_gate.specs.Gated.{opened, AllFit, Batches, HasBatches, StandsFor, counted_length}
 
 -- the places of the payloads of these batches, where the first gate stands at this offset
 abbrev pub spans_of : ℕ → List (List ℕ) → List Span
 spans_of gate [] = []
-spans_of gate (payload ∷ batches) = record { at = gate + 9; length = length payload } ∷ spans_of (gate + 9 + length payload) batches
+spans_of gate (payload ∷ batches) =
+    record { at = gate + 9; length = length payload } ∷ spans_of (gate + 9 + length payload) batches
 
 -- this holds of the file's bytes as read, where the site is honest and the file is there
 abbrev pub AsRead : FileId → Option Account → (List ℕ → Type 0) → Type 0
@@ -74,17 +77,32 @@ IsCutFault file P Memory = Unit {0}
 abbrev pub IsNotSpent : Fault → Type 0
 IsNotSpent fault = fault ≡ Spent → ⊥
 
+-- the disk failed, or a batch is cut
+abbrev pub IsFailedOrDamaged : Fault → Type 0
+IsFailedOrDamaged Failed = Unit {0}
+IsFailedOrDamaged (Damaged damage) = Unit {0}
+IsFailedOrDamaged Spent = ⊥
+IsFailedOrDamaged Memory = ⊥
+
 -- one file changes so, bytes of files are read, and nothing else
-pub record ReadsAndChanges (id : FileId) (changes : Option FileState → Option FileState → Type 0) (old new : Account) : Type 0 where
-  pub told : new.told ≡ old.told
-  pub count : ℕ
-  pub taken : new.taken ≡ old.taken + count
-  pub others : (f : FileId) → f ≢ id → get new.files f ≡ get old.files f
-  pub file : changes (get old.files id) (get new.files id)
+abbrev pub ReadsAndChanges : FileId → (Option FileState → Option FileState → Type 0) → Account → Account → Type 0
+ReadsAndChanges id R = ChangesWhere (Only id) ReadsSome (λ files now. R (get files id) (get now id))
 
 -- the bytes of the payloads, together
 abbrev pub payload_bytes : List Span → ℕ
 payload_bytes spans = sum_by (λ (span : Span). span.length) spans
+
+-- These payloads lie one behind the other, from the gate at this offset on: each behind its gate and its length, with
+-- the next gate behind it. Up to the last of these gates, and with it, there are so many bytes.
+abbrev pub LieBehind : ℕ → List Span → ℕ → Type 0
+LieBehind gate [] counted = counted ≡ gate + 1
+LieBehind gate (span ∷ spans) counted = (span.at ≡ gate + 9) × LieBehind (span.at + span.length) spans counted
+
+-- The payloads lie one behind the other from the first gate on, within this many bytes. So each batch has nine bytes
+-- of them besides its payload, and the last gate has one.
+pub record Occupy (spans : List Span) (counted : ℕ) : Type 0 where
+  pub lie : LieBehind 0 spans counted
+  pub sum : counted ≡ 9 * length spans + payload_bytes spans + 1
 
 -- for each payload a gate and a length were read, at most, and as much once more; of these bytes no more were read than
 -- stand outside the payloads

@@ -1,18 +1,18 @@
 //! Files of batches behind gates: a batch counts whole or not at all, at whatever moment the machine stops.
 #![tactic(auto)]
 
-mod append;
+mod at_rest;
 mod fill;
 mod gate;
-mod log;
-mod opening;
 mod places;
-mod seal;
+mod scanning;
 mod small;
 mod spans;
+mod steps;
 
+pub use at_rest::Rest;
+pub use fill::Filling;
 pub use gate::lay;
-pub use log::{Filling, Rest};
-pub use opening::scan;
-pub use places::{peek, read_span};
+pub use places::{peek, read_span, span_behind};
+pub use scanning::scan;
 pub use spans::Span;

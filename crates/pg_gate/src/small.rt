@@ -1,16 +1,16 @@
 // A short batch is written with its length and the next closed gate in one write.
-ghost use Rattle.std.specs.Prelude.{◌≡◌, ◌≤◌, ◌+◌, ◌^◌, [], ◌∷◌, ◌++◌, length, take, IfOk, OnOk, OnErr};
+ghost use Rattle.std.specs.Prelude.{◌≡◌, ◌≤◌, ◌+◌, ◌^◌, [], ◌∷◌, ◌++◌, length, take, IfOk, OnOk};
 ghost use Rattle.std.specs.Int.{to_be_bytes, w64};
-ghost use Rattle.std.specs.FinMap.{get};
-ghost use Rattle.pg_disk.specs.Account.{account, IsHonest};
-ghost use Rattle.pg_disk.specs.Calls.{Changes, ChangesFile};
+ghost use Rattle.pg_disk.specs.Calls.{ChangesFile, Rewrites};
 ghost use Rattle.pg_disk.specs.Counts.{CountsDisk};
 ghost use Rattle.pg_disk.specs.Image.{LeavesAt};
 ghost use Rattle.pg_disk.specs.Moments.{Within};
-ghost use Rattle.pg_gate.specs.Gated.{HasBatches, HasOldOrNew, StandsFor, Stages, file_of, counted_length};
+ghost use Rattle.pg_disk.specs.Sites.{OnFile, Steps};
+ghost use Rattle.pg_gate.specs.Gated.{KeepsAll, MayGrow, StandsClosed, StandsFor, Stages};
+ghost use Rattle.pg_gate.specs.Gated.{file_of, gate_of, counted_length};
 
 use crate::Rest;
-use crate::seal::open;
+use crate::steps::open;
 use pg_disk::{Disk, Failed};
 
 /// The greatest length of a batch that is written at once, in bytes: with its length and the next gate it fills a
@@ -21,7 +21,8 @@ pub(crate) const SMALL: usize = 4087;
 fn fill(buffer: &mut [u8], batch: &[u8])
     requires { length batch.now + 9 ≤ length buffer.old }
     ensures same_length { length buffer.new ≡ length buffer.old }
-    ensures front { take (8 + length batch.now + 1) buffer.new ≡ to_be_bytes w64 (length batch.now) ++ (batch.now ++ 0 ∷ []) }
+    ensures front { take (8 + length batch.now + 1) buffer.new ≡
+        to_be_bytes w64 (length batch.now) ++ (batch.now ++ 0 ∷ []) }
 {
     let end = 8 + batch.len();
     buffer[..8].copy_from_slice(&(batch.len() as u64).to_be_bytes());
@@ -32,19 +33,14 @@ fn fill(buffer: &mut [u8], batch: &[u8])
 // Writes the length, the batch and the next closed gate behind the closed gate, and syncs: the batch is whole, and
 // doesn't count.
 fn stage_small<D: Disk>(rest: &Rest, disk: &mut D, batch: &[u8]) -> Result<(), Failed>
-    requires stands { IsHonest (D.tells disk.old) →
-        (batches : _) × StandsFor rest.now batches (get (account (D.tells disk.old)).files rest.now.file) }
+    requires stands { OnFile D.Disk disk.old rest.now.file (λ s. (batches : _) × StandsFor rest.now batches s) }
     requires short { length batch.now ≤ 4087 }
-    ensures staged { OnOk result (Changes (D.tells disk.old) (D.tells disk.new)
+    ensures staged { OnOk result (Steps D.Disk disk.old disk.new
         (ChangesFile rest.now.file (λ s t.
         (batches : _) → StandsFor rest.now batches s → Stages rest.now.gate batches batch.now t))) }
-    ensures other_files { OnErr result (Changes (D.tells disk.old) (D.tells disk.new)
-        (ChangesFile rest.now.file (λ _ _. Unit {0}))) }
-    ensures any_moment { Within D.moment D.left_since disk.old disk.new
-        (LeavesAt rest.now.file
-        (λ left. (batches : _) → StandsFor rest.now batches (get (account (D.tells disk.old)).files rest.now.file) →
-        HasBatches batches left)
-        (D.tells disk.old)) }
+    ensures all_else { Steps D.Disk disk.old disk.new
+        (ChangesFile rest.now.file (Rewrites (rest.now.gate + 1) (rest.now.gate + 10 + length batch.now))) }
+    ensures any_moment { Within D.Disk disk.old disk.new (LeavesAt rest.now.file (KeepsAll rest.now)) }
     ensures cause { CountsDisk (D.faults disk.old) (D.faults disk.new) result }
 {
     let mut buffer = [0u8; 4096];
@@ -55,22 +51,17 @@ fn stage_small<D: Disk>(rest: &Rest, disk: &mut D, batch: &[u8]) -> Result<(), F
 
 // Adds a short batch to a file that has room for it.
 pub(crate) fn append_small<D: Disk>(rest: Rest, disk: &mut D, batch: &[u8]) -> Result<Rest, Failed>
-    requires stands { IsHonest (D.tells disk.old) →
-        (batches : _) × StandsFor rest batches (get (account (D.tells disk.old)).files (file_of rest)) }
+    requires stands { OnFile D.Disk disk.old (file_of rest) (λ s. (batches : _) × StandsFor rest batches s) }
     requires short { length batch.now ≤ 4087 }
     requires room { counted_length rest + length batch.now + 9 ≤ 2 ^ 62 }
     ensures file { IfOk result (λ next. file_of next ≡ file_of rest) }
     ensures grown { IfOk result (λ next. counted_length next ≡ counted_length rest + length batch.now + 9) }
-    ensures appended { IfOk result (λ next. Changes (D.tells disk.old) (D.tells disk.new)
+    ensures appended { IfOk result (λ next. Steps D.Disk disk.old disk.new
         (ChangesFile (file_of rest) (λ s t.
-        (batches : _) → StandsFor rest batches s → StandsFor next (batches ++ batch.now ∷ []) t))) }
-    ensures other_files { OnErr result (Changes (D.tells disk.old) (D.tells disk.new)
-        (ChangesFile (file_of rest) (λ _ _. Unit {0}))) }
-    ensures any_moment { Within D.moment D.left_since disk.old disk.new
-        (LeavesAt (file_of rest)
-        (λ left. (batches : _) → StandsFor rest batches (get (account (D.tells disk.old)).files (file_of rest)) →
-        HasOldOrNew batches batch.now left)
-        (D.tells disk.old)) }
+        (batches : _) → StandsFor rest batches s → StandsClosed next (batches ++ batch.now ∷ []) t))) }
+    ensures all_else { Steps D.Disk disk.old disk.new
+        (ChangesFile (file_of rest) (Rewrites (gate_of rest) (counted_length rest + length batch.now + 9))) }
+    ensures any_moment { Within D.Disk disk.old disk.new (LeavesAt (file_of rest) (MayGrow rest batch.now)) }
     ensures cause { CountsDisk (D.faults disk.old) (D.faults disk.new) result }
 {
     stage_small(&rest, disk, batch)?;

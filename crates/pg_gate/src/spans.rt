@@ -1,12 +1,14 @@
 // Where payloads stand, and the walk from gate to gate.
-ghost use Rattle.std.specs.Prelude.{◌≡◌, ◌<◌, ◌≤◌, ◌+◌, ◌-◌, ◌^◌, ℕ, length, take, drop, IfOk, IfErr, IfSome, IsTrue, OnErr, ◌↔◌};
+ghost use Rattle.std.specs.Prelude.{◌≡◌, ◌<◌, ◌≤◌, ◌+◌, ◌-◌, ◌^◌, ◌↔◌, ℕ, length, take, drop};
+ghost use Rattle.std.specs.Prelude.{IfOk, IfErr, IfSome, IsTrue, OnErr};
 ghost use Rattle.std.specs.Int.{to_be_bytes, w64};
-ghost use Rattle.pg_disk.specs.Account.{account, IsHonest};
-ghost use Rattle.pg_disk.specs.Calls.{Changes, Reads};
+ghost use Rattle.pg_disk.specs.Calls.{Reads};
 ghost use Rattle.pg_disk.specs.Counts.{CountsFault};
 ghost use Rattle.pg_disk.specs.Image.{IsFileThere, Leaves};
 ghost use Rattle.pg_disk.specs.Moments.{Within};
-ghost use Rattle.pg_gate.specs.Spans.{AsRead, IsNext, IsCutAt, IsWalked, IsCut, IsCutFault, IsNotSpent, ReadsGates, ReadsGateAt, ReadsWithin};
+ghost use Rattle.pg_disk.specs.Sites.{OnBytes, OnFiles, OnTaken, Steps};
+ghost use Rattle.pg_gate.specs.Spans.{IsNext, IsCutAt, IsWalked, IsCut, IsCutFault, IsFailedOrDamaged, IsNotSpent};
+ghost use Rattle.pg_gate.specs.Spans.{Occupy, ReadsGates, ReadsGateAt, ReadsWithin};
 
 use pg_bytes::take_u64;
 use pg_disk::{Damage, Disk, Fault, FileId, Rule};
@@ -37,22 +39,23 @@ fn payload_length(head: &[u8]) -> u64
 }
 
 // Reads the gate at this offset of a file of `end` bytes, with the length behind it. None is a gate that isn't open.
-fn next_span<D: Disk>(
+pub(crate) fn next_span<D: Disk>(
     disk: &mut D,
     file: FileId,
     gate: u64,
     end: u64,
 ) -> Result<Option<Span>, Fault>
-    requires there { IsHonest (D.tells disk.old) → IsFileThere file (account (D.tells disk.old)).files }
+    requires there { OnFiles D.Disk disk.old (IsFileThere file) }
     requires within { gate < end }
-    ensures next { IfOk result (λ next. AsRead file (D.tells disk.old) (λ bytes. end ≡ length bytes → IsNext bytes gate next)) }
+    ensures next { IfOk result (λ next. OnBytes D.Disk disk.old file (λ bytes.
+        end ≡ length bytes → IsNext bytes gate next)) }
     ensures in_file { IfOk result (λ next. IfSome next (λ span. (span.at ≡ gate + 9) × (span.at + span.length < end))) }
-    ensures same { (n : ℕ) × Changes (D.tells disk.old) (D.tells disk.new) (Reads n) }
-    ensures taken { AsRead file (D.tells disk.old) (λ bytes. ReadsGateAt bytes gate (account (D.tells disk.old)) (account (D.tells disk.new))) }
-    ensures any_moment { Within D.moment D.left_since disk.old disk.new (Leaves (D.tells disk.old)) }
+    ensures same { (n : ℕ) × Steps D.Disk disk.old disk.new (Reads n) }
+    ensures taken { OnTaken D.Disk disk.old disk.new file (λ bytes. ReadsGateAt bytes gate) }
+    ensures any_moment { Within D.Disk disk.old disk.new Leaves }
     ensures damaged { IfErr result (IsCutFault file (λ at. (at ≡ gate) ×
-        AsRead file (D.tells disk.old) (λ bytes. end ≡ length bytes → IsCutAt bytes gate))) }
-    ensures only { IfErr result IsNotSpent }
+        OnBytes D.Disk disk.old file (λ bytes. end ≡ length bytes → IsCutAt bytes gate))) }
+    ensures only { IfErr result IsFailedOrDamaged }
     ensures cause { CountsFault (D.faults disk.old) (D.faults disk.new) result }
 {
     let mut buffer = [0; 9];
@@ -75,33 +78,38 @@ fn next_span<D: Disk>(
 }
 
 // Walks from gate to gate of a file of `end` bytes, and answers the places of the payloads and the offset of the gate
-// that ends them.
+// that ends them. A batch takes 9 bytes at least: so there are at most `end / 9 + 1` reads, whatever the disk answers.
 pub(crate) fn walk<D: Disk>(
     alloc: Global,
     disk: &mut D,
     file: FileId,
     end: u64,
 ) -> Result<(Vec<Span>, u64), Fault>
-    requires there { IsHonest (D.tells disk.old) → IsFileThere file (account (D.tells disk.old)).files }
+    requires there { OnFiles D.Disk disk.old (IsFileThere file) }
     requires long { 1 < end }
-    ensures walked { IfOk result (λ found. AsRead file (D.tells disk.old) (λ bytes. end ≡ length bytes → IsWalked bytes found.1 found.0.items)) }
-    ensures in_file { IfOk result (λ found. found.1 < end) }
-    ensures same { (n : ℕ) × Changes (D.tells disk.old) (D.tells disk.new) (Reads n) }
-    ensures taken { IfOk result (λ found. AsRead file (D.tells disk.old) (λ bytes. end ≡ length bytes →
-        ReadsGates bytes found.0.items (account (D.tells disk.old)) (account (D.tells disk.new)))) }
-    ensures taken_err { OnErr result (AsRead file (D.tells disk.old) (λ bytes. end ≡ length bytes →
-        ReadsWithin bytes (account (D.tells disk.old)) (account (D.tells disk.new)))) }
-    ensures any_moment { Within D.moment D.left_since disk.old disk.new (Leaves (D.tells disk.old)) }
+    ensures walked { IfOk result (λ found. OnBytes D.Disk disk.old file (λ bytes.
+        end ≡ length bytes → IsWalked bytes found.1 found.0.items)) }
+    ensures in_file { IfOk result (λ found. (found.1 < end) × Occupy found.0.items (found.1 + 1)) }
+    ensures same { (n : ℕ) × Steps D.Disk disk.old disk.new (Reads n) }
+    ensures taken { IfOk result (λ found. OnTaken D.Disk disk.old disk.new file (λ bytes old new. end ≡ length bytes →
+        ReadsGates bytes found.0.items old new)) }
+    ensures taken_err { OnErr result (OnTaken D.Disk disk.old disk.new file (λ bytes old new. end ≡ length bytes →
+        ReadsWithin bytes old new)) }
+    ensures any_moment { Within D.Disk disk.old disk.new Leaves }
     ensures damaged { IfErr result (IsCutFault file (λ at.
-        AsRead file (D.tells disk.old) (λ bytes. end ≡ length bytes → IsCut bytes at))) }
+        OnBytes D.Disk disk.old file (λ bytes. end ≡ length bytes → IsCut bytes at))) }
     ensures only { IfErr result IsNotSpent }
     ensures cause { CountsFault (D.faults disk.old) (D.faults disk.new) result }
 {
     let mut spans = Vec::new(alloc);
     let mut gate = 0;
-    'gates: while let Some(span) = next_span(disk, file, gate, end)? {
+    let most = end / 9 + 1;
+    'gates: for _ in 0..most {
+        let Some(span) = next_span(disk, file, gate, end)? else {
+            return Ok((spans, gate));
+        };
         spans.push(span).map_err(AllocError::from)?;
         gate = span.at + span.length;
     }
-    Ok((spans, gate))
+    unreachable!()
 }

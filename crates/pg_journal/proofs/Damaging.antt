@@ -12,9 +12,9 @@ use Rattle.pg_disk.specs.Calls.{Changes}
 use Rattle.pg_gate.specs.Spans.{AsRead, IsCut, IsCutFault, IsMendable, IsNotSpent, ReadsAndChanges, StaysOrMends}
 use Rattle.pg_gate.specs.declared.spans.Span.{Span}
 use Rattle.pg_journal.specs.declared.journal.Journal.{Journal}
-use Rattle.pg_journal.specs.Generations.{bytes_of}
+use Rattle.pg_disk.specs.Views.{bytes_of}
 use Rattle.pg_journal.specs.Looks.{KeepsAtDamage, KeepsDamaged, ReadsGenerations}
-use Rattle.pg_journal.specs.Stands.{StaysOrSettles}
+use Rattle.pg_journal.specs.Stands.{StaysOrComesToRest}
 use Rattle.pg_journal.proofs.Order.{same_or_not}
 use Rattle.pg_journal.proofs.Scanned.{IsScannedTo, next_there, next_now, stays_away}
 
@@ -40,7 +40,7 @@ module _ (old mid now : FinMap file_cmp FileState) (left : List FileId) (file : 
   kept_damaged : KeepsDamaged file old now
   kept_damaged = record {
     bytes = cut_bytes (get mid file) (get now file) at own (next_now old mid left file last so_far) cut ∙ ap bytes_of (so_far.fresh file (Contains-push left file));
-    others = λ f kind ne. subst (λ t. StaysOrSettles (get old f) t) (sym (others f ne)) (so_far.each f kind);
+    others = λ f kind ne. subst (λ t. StaysOrComesToRest (get old f) t) (sym (others f ne)) (so_far.each f kind);
     made = λ f kind absent. ⊎_elim (λ same. absurd (away (get old file) (next_there old mid left file last so_far).1.0 (next_there old mid left file last so_far).1.1 (subst (λ x. get old x ≡ None) same absent)))
         (λ ne. others f ne ∙ stays_away (get old f) (get mid f) absent (so_far.each f kind)) (same_or_not f file);
   }
@@ -54,6 +54,6 @@ module _ (old mid new : Option Account) (left : List FileId) (file : FileId) (la
       let kept = stays.kept honest in
       let step = change.step kept in
       subst (λ f. KeepsDamaged f (account old).files (account new).files) (sym is.0)
-      (kept_damaged (account old).files (account mid).files (account new).files left file last (so_far honest) step.others step.file damage.at (is.2 kept))
+      (kept_damaged (account old).files (account mid).files (account new).files left file last (so_far honest) step.others step.change damage.at (is.2 kept))
   scan_kept Spent only is = only refl
   scan_kept Memory only is = tt

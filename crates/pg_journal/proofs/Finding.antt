@@ -4,6 +4,7 @@ use Rattle.std.specs.Prelude.{MatchOption}
 use Rattle.std.specs.FinMap.{get}
 use Rattle.pg_disk.specs.declared.fault.Fault.{Fault}
 use Rattle.pg_disk.specs.declared.fault.Fault.TheVariants.{Failed, Damaged, Spent, Memory}
+use Rattle.pg_disk.specs.declared.disk.Disk.{Ghosts}
 use Rattle.pg_disk.specs.declared.file_id.FileId.{FileId}
 use Rattle.pg_disk.specs.declared.file_id.Kind.TheVariants.{Journal as OfJournal}
 use Rattle.pg_disk.specs.Files.{Files}
@@ -11,13 +12,14 @@ use Rattle.pg_disk.specs.Account.{FileState, Account, account, IsHonest}
 use Rattle.pg_disk.specs.Calls.{Changes, ChangesFile, Reads}
 use Rattle.pg_disk.specs.Image.{IsLeftAt, Leaves, LeavesAt}
 use Rattle.pg_disk.specs.Moments.{Within}
-use Rattle.pg_disk.proofs.Runs.{weaker, then_run}
-use Rattle.pg_gate.specs.Gated.{HasNone, StandsFor, file_of}
+use Rattle.pg_disk.proofs.Composing.{changes_then, changes_weaker, weaker, then_run}
+use Rattle.pg_gate.specs.Gated.{HasNone, IsLaid, StandsFor, file_of}
 use Rattle.pg_gate.specs.Spans.{StaysOrMends}
-use Rattle.pg_gate.specs.declared.log.Rest.{Rest}
+use Rattle.pg_gate.specs.declared.at_rest.Rest.{Rest}
 use Rattle.pg_gate.specs.declared.spans.Span.{Span}
 use Rattle.pg_journal.specs.declared.journal.Journal.{Journal}
-use Rattle.pg_journal.specs.Generations.{as_read, bytes_of, first_generation, HasNoneThere, JournalOf}
+use Rattle.pg_journal.specs.Generations.{first_generation, HasNoneThere, JournalOf}
+use Rattle.pg_disk.specs.Views.{as_read, bytes_of}
 use Rattle.pg_journal.specs.Looks.{IsCutAt, IsCutGeneration, IsFound, KeepsAtDamage, KeepsDamaged, KeepsGeneration, LeavesJournal, ReadsGenerations, TakesWithin}
 use Rattle.pg_journal.specs.Stands.{IsIdle, Stands}
 use Rattle.pg_journal.proofs.Leaving.{gone_left, leaves_journal, left_now, no_change}
@@ -34,58 +36,46 @@ absent_of (Some s) e = cc
 
 -- a listing is a change of no generation
 pub listed_stays : (old mid : Option Account) → Changes old mid (Reads 0) → Changes old mid ReadsGenerations
-listed_stays old mid same = record {
-  kept = same.kept;
-  back = same.back;
-  step = λ h.
-      let a = same.step h in
-      let b = (no_change old).step h in
-      record {
-        told = a.told;
-        count = 0;
-        taken = a.taken;
-        others = λ file kind. ap (λ m. get m file) a.files;
-        generations = λ file kind. subst (λ m. StaysOrMends (get (account old).files file) (get m file)) (sym a.files) (b.generations file kind);
-        made = λ file kind absent. inl (ap (λ m. get m file) a.files ∙ absent);
-      };
-}
+listed_stays old mid same = changes_weaker old mid (Reads 0) ReadsGenerations same (λ h a. record {
+  told = a.told;
+  taken = omega (arith, a.taken);
+  others = λ file kind. ap (λ m. get m file) a.files;
+  change = record {
+    generations = λ file kind. subst (λ m. StaysOrMends (get (account old).files file) (get m file)) (sym a.files) (((no_change old).step h).change.generations file kind);
+    made = λ file kind absent. inl (ap (λ m. get m file) a.files ∙ absent);
+  };
+})
 
 -- what a crash leaves after the listing, seen from before it
 seen_before : (old mid : Option Account) → Changes old mid (Reads 0) → (c : Files) (b : List ℕ) → LeavesJournal mid c b → LeavesJournal old c b
 seen_before old mid same c b left =
     let honest = same.back left.honest in
     let a = same.step honest in
-    leaves_journal old c b honest (left.nothing ∙ a.told) (λ file kind. subst (λ m. IsLeftAt (get m file) (get c file)) a.files (left.others file kind))
-    (λ file kind. subst (λ m. KeepsGeneration (get m file) (get c file)) a.files (left.generations file kind)) (λ file kind absent. left.made file kind (ap (λ m. get m file) a.files ∙ absent))
+    leaves_journal old c b honest (left.told ∙ a.told) (λ file kind. subst (λ m. IsLeftAt (get m file) (get c file)) a.files (left.others file kind))
+    (λ file kind. subst (λ m. KeepsGeneration (get m file) (get c file)) a.files (left.left.generations file kind)) (λ file kind absent. left.left.made file kind (ap (λ m. get m file) a.files ∙ absent))
 
 -- after the listing the generations are scanned
 pub listed_then : (old mid new : Option Account) → Changes old mid (Reads 0) → Changes mid new ReadsGenerations → Changes old new ReadsGenerations
-listed_then old mid new same stays = record {
-  kept = λ h. stays.kept (same.kept h);
-  back = λ h. same.back (stays.back h);
-  step = λ h.
-      let a = same.step h in
-      let b = stays.step (same.kept h) in
-      record {
-        told = b.told ∙ a.told;
-        count = b.count;
-        taken = omega (arith, a.taken, b.taken);
-        others = λ file kind. b.others file kind ∙ ap (λ m. get m file) a.files;
-        generations = λ file kind. subst (λ m. StaysOrMends (get m file) (get (account new).files file)) a.files (b.generations file kind);
-        made = λ file kind absent. b.made file kind (ap (λ m. get m file) a.files ∙ absent);
-      };
-}
+listed_then old mid new same stays = changes_then old mid new (Reads 0) ReadsGenerations ReadsGenerations same stays (λ h a b. record {
+  told = b.told ∙ a.told;
+  taken = omega (arith, a.taken, b.taken);
+  others = λ file kind. b.others file kind ∙ ap (λ m. get m file) a.files;
+  change = record {
+    generations = λ file kind. subst (λ m. StaysOrMends (get m file) (get (account new).files file)) a.files (b.change.generations file kind);
+    made = λ file kind absent. b.change.made file kind (ap (λ m. get m file) a.files ∙ absent);
+  };
+})
 
 pub none_before : (old mid : Option Account) → Changes old mid (Reads 0) → (IsHonest mid → HasNoneThere (as_read (account mid).files)) → IsHonest old → HasNoneThere (as_read (account old).files)
 none_before old mid same none honest = subst (λ m. HasNoneThere (as_read m)) (same.step honest).files (none (same.kept honest))
 
-module _ {D : Type 0} (moment : D → ℕ) (left_since : D → ℕ → Files → List ℕ → Type 0) (tells : D → Option Account) (old mid : D) (listing : Within moment left_since old mid (Leaves (tells old))) where
-  pub in_listing : Within moment left_since old mid (LeavesJournal (tells old))
-  in_listing = weaker moment left_since old mid (Leaves (tells old)) (LeavesJournal (tells old)) listing (left_now (tells old) (tells old) (no_change (tells old)) (λ honest file kind. inl refl))
+module _ {D : Type 0} (m : Ghosts D) (old mid : D) (listing : Within m old mid Leaves) where
+  pub in_listing : Within m old mid LeavesJournal
+  in_listing = weaker m old mid Leaves LeavesJournal listing (left_now (m.tells old) (m.tells old) (no_change (m.tells old)) (λ honest file kind. inl refl))
 
-  module _ (same : Changes (tells old) (tells mid) (Reads 0)) where
-    pub in_scans : (new : D) → Within moment left_since mid new (LeavesJournal (tells mid)) → Within moment left_since old new (LeavesJournal (tells old))
-    in_scans new run = then_run moment left_since old mid new (LeavesJournal (tells old)) (LeavesJournal (tells mid)) in_listing run (seen_before (tells old) (tells mid) same)
+  module _ (same : Changes (m.tells old) (m.tells mid) (Reads 0)) where
+    pub in_scans : (new : D) → Within m mid new LeavesJournal → Within m old new LeavesJournal
+    in_scans new run = then_run m old mid new LeavesJournal LeavesJournal in_listing run (seen_before (m.tells old) (m.tells mid) same)
 
 -- where no generation is there
 module _ (old mid : Option Account) (stays : Changes old mid ReadsGenerations) (before : IsHonest old → HasNoneThere (as_read (account old).files)) (now : IsHonest old → HasNoneThere (as_read (account mid).files)) where
@@ -102,7 +92,7 @@ module _ (old mid : Option Account) (stays : Changes old mid ReadsGenerations) (
   not_first file kind same = kind (ap (λ (f : FileId). f.kind) same)
 
   -- while the first one is laid
-  pub laying_leaves : (c : Files) (b : List ℕ) → LeavesAt first_generation HasNone mid c b → LeavesJournal old c b
+  pub laying_leaves : (c : Files) (b : List ℕ) → LeavesAt first_generation (λ _. HasNone) mid c b → LeavesJournal old c b
   laying_leaves c b left =
       let honest = stays.back left.honest in
       let a = stays.step honest in
@@ -110,27 +100,21 @@ module _ (old mid : Option Account) (stays : Changes old mid ReadsGenerations) (
       leaves_journal old c b honest (left.told ∙ a.told)
       (λ file kind. subst (λ s. IsLeftAt s (get c file)) (a.others file kind) (left.others file (not_first file kind)))
       (λ file kind. subst (λ s. KeepsGeneration s (get c file)) (sym (absent_before honest file kind))
-      (⊎_elim (λ same. subst (λ f. HasNone (get c f)) (sym same) left.file) (λ other. subst HasNone (sym (none file kind other)) tt) (same_or_not file first_generation)))
+      (⊎_elim (λ same. subst (λ f. HasNone (get c f)) (sym same) left.left) (λ other. subst HasNone (sym (none file kind other)) tt) (same_or_not file first_generation)))
       (λ file kind absent. ⊎_elim (λ same. inr same) (λ other. inl (none file kind other)) (same_or_not file first_generation))
 
   pub then_laid : (new : Option Account) (R : Option FileState → Option FileState → Type 0) → Changes mid new (ChangesFile first_generation R) → Changes old new ReadsGenerations
-  then_laid new R laid = record {
-    kept = λ h. laid.kept (stays.kept h);
-    back = λ h. stays.back (laid.back h);
-    step = λ h.
-        let a = stays.step h in
-        let b = laid.step (stays.kept h) in
-        record {
-          told = b.told ∙ a.told;
-          count = a.count;
-          taken = omega (arith, a.taken, b.taken);
-          others = λ file kind. b.others file (not_first file kind) ∙ a.others file kind;
-          generations = λ file kind. subst (λ s. StaysOrMends s (get (account new).files file)) (sym (absent_before h file kind)) tt;
-          made = λ file kind absent. ⊎_elim (λ same. inr same) (λ other. inl (b.others file other ∙ absent_now h file kind)) (same_or_not file first_generation);
-        };
-  }
+  then_laid new R laid = changes_then old mid new ReadsGenerations (ChangesFile first_generation R) ReadsGenerations stays laid (λ h a b. record {
+    told = b.told ∙ a.told;
+    taken = omega (arith, a.taken, b.taken);
+    others = λ file kind. b.others file (not_first file kind) ∙ a.others file kind;
+    change = record {
+      generations = λ file kind. subst (λ s. StaysOrMends s (get (account new).files file)) (sym (absent_before h file kind)) tt;
+      made = λ file kind absent. ⊎_elim (λ same. inr same) (λ other. inl (b.others file other ∙ absent_now h file kind)) (same_or_not file first_generation);
+    };
+  })
 
-  pub all_laid : (new : Option Account) (rest : Rest) → file_of rest ≡ first_generation → Changes mid new (ChangesFile first_generation (λ _ s. StandsFor rest [] s)) → IsHonest old
+  pub all_laid : (new : Option Account) (rest : Rest) → file_of rest ≡ first_generation → Changes mid new (ChangesFile first_generation (λ _ s. IsLaid s × StandsFor rest [] s)) → IsHonest old
       → JournalOf (as_read (account old).files) [] × Stands (record { rest = rest }) [] (account new).files
   all_laid new rest own laid honest =
       let b = laid.step (stays.kept honest) in
@@ -138,7 +122,7 @@ module _ (old mid : Option Account) (stays : Changes old mid ReadsGenerations) (
         inr (λ file kind. subst HasNone (sym (before honest file kind)) tt, refl),
         record {
           kind = ap (λ (f : FileId). f.kind) own;
-          stands = subst (λ f. StandsFor rest [] (get (account new).files f)) (sym own) b.file;
+          stands = subst (λ f. StandsFor rest [] (get (account new).files f)) (sym own) b.change.1;
           last = λ file kind behind. idle file kind (λ same. not_itself_by (file_of rest) file (same ∙ sym own) behind);
           alone = λ none file kind other. idle file kind (λ same. other (same ∙ sym own));
         },

@@ -3,7 +3,8 @@ use Rattle.std.proofs.Common.{◌≡◌, inl, inr, ℕ, List, [], ◌∷◌, Opt
 use Rattle.pg_disk.specs.declared.file_id.FileId.{FileId}
 use Rattle.pg_gate.specs.Gated.{AllFit, Batches, HasBatches, HasNone}
 use Rattle.pg_gate.proofs.Unique.{batches_unique, short_none, head_of}
-use Rattle.pg_journal.specs.Generations.{Contents, IsGeneration, JournalOf}
+use Rattle.pg_journal.specs.Generations.{IsGeneration, JournalOf}
+use Rattle.pg_disk.specs.Views.{Contents}
 use Rattle.pg_journal.proofs.Order.{in_order}
 
 -- bytes that have no batch have no other list of batches

@@ -16,7 +16,8 @@ use Rattle.pg_gate.specs.Gated.{AllFit, Batches, HasBatches, HasNone}
 use Rattle.pg_gate.specs.Spans.{AsRead, HasSpans, IsCut, spans_of}
 use Rattle.pg_gate.specs.declared.spans.Span.{Span}
 use Rattle.pg_gate.proofs.Reading.{as_read_before}
-use Rattle.pg_journal.specs.Generations.{as_read, bytes_of, IsAscending, IsBefore, IsGeneration}
+use Rattle.pg_journal.specs.Generations.{IsAscending, IsBefore, IsGeneration}
+use Rattle.pg_disk.specs.Views.{as_read, bytes_of}
 use Rattle.pg_journal.specs.Looks.{AreGenerations, IsCutAt}
 use Rattle.pg_journal.proofs.Cuts.{none_placed, some_placed}
 use Rattle.pg_journal.proofs.Order.{not_itself_by}

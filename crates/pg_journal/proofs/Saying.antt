@@ -4,16 +4,17 @@ use Rattle.std.specs.FinMap.{FinMap, get}
 use Rattle.pg_disk.specs.declared.file_id.FileId.{FileId}
 use Rattle.pg_disk.specs.declared.file_id.Kind.TheVariants.{Journal as OfJournal}
 use Rattle.pg_disk.specs.Files.{file_cmp, Files}
-use Rattle.pg_disk.specs.Account.{FileState}
+use Rattle.pg_disk.specs.Account.{FileState, IsQuietAt}
 use Rattle.pg_disk.specs.Image.{IsLeftAt}
 use Rattle.pg_gate.specs.Gated.{AllFit, Batches, HasBatches, HasNone, RestsAt, StandsFor}
-use Rattle.pg_gate.proofs.Scanning.{at_rest_left, rest_left}
+use Rattle.pg_gate.proofs.KeepsAsRead.{at_rest_left, rest_left}
 use Rattle.pg_gate.proofs.Sealing.{batches_from}
 use Rattle.pg_gate.proofs.Unique.{stands_fit, stands_left}
 use Rattle.pg_journal.specs.declared.journal.Journal.{Journal}
-use Rattle.pg_journal.specs.Generations.{Contents, as_read, as_left, bytes_of, JournalOf}
+use Rattle.pg_journal.specs.Generations.{JournalOf}
+use Rattle.pg_disk.specs.Views.{Contents, as_read, as_left, bytes_of}
 use Rattle.pg_journal.specs.Looks.{KeepsGeneration}
-use Rattle.pg_journal.specs.Stands.{name_of, IsIdle, Stands, StaysOrSettles, IsQuietAt, AreQuiet}
+use Rattle.pg_journal.specs.Stands.{name_of, IsIdle, Stands, StaysOrComesToRest, AreQuiet}
 use Rattle.pg_journal.proofs.Order.{same_or_not, not_itself_by}
 
 -- what a crash leaves of a generation keeps its batches
@@ -113,7 +114,7 @@ stands_there journal batches files stands = there (get files (name_of journal)) 
 
 -- Once it is found nothing of any generation is pending, where nothing was.
 pub found_quiet : (journal : Journal) (batches : List (List ℕ)) (old now : FinMap file_cmp FileState) → AreQuiet old → Stands journal batches now
-    → ((file : FileId) → file.kind ≡ OfJournal → file ≢ name_of journal → StaysOrSettles (get old file) (get now file)) → AreQuiet now
+    → ((file : FileId) → file.kind ≡ OfJournal → file ≢ name_of journal → StaysOrComesToRest (get old file) (get now file)) → AreQuiet now
 found_quiet journal batches old now quiet stands others file kind = ⊎_elim (λ own. subst (λ f. IsQuietAt (get now f)) (sym own) (rests journal.rest.gate batches (get now (name_of journal)) stands.stands))
     (λ other. stays (get old file) (get now file) (quiet file kind) (others file kind other)) (same_or_not file (name_of journal))
   where
@@ -121,7 +122,7 @@ found_quiet journal batches old now quiet stands others file kind = ⊎_elim (λ
     rests gate bs None is = absurd is
     rests gate bs (Some s) is = is.quiet
 
-    stays : (s t : Option FileState) → IsQuietAt s → StaysOrSettles s t → IsQuietAt t
+    stays : (s t : Option FileState) → IsQuietAt s → StaysOrComesToRest s t → IsQuietAt t
     stays s t is (inl same) = subst IsQuietAt (sym same) is
     stays None t is (inr settles) = subst IsQuietAt (sym settles) tt
     stays (Some s) t is (inr settles) = rests 0 [] t settles.1

@@ -13,14 +13,15 @@ use Rattle.pg_disk.specs.Account.{FileState}
 use Rattle.pg_disk.specs.Image.{IsFileThere}
 use Rattle.pg_gate.specs.Gated.{opened, Batches, HasBatches, HasNone, RestsAt, file_of}
 use Rattle.pg_gate.specs.Spans.{IsScanned, spans_of}
-use Rattle.pg_gate.specs.declared.log.Rest.{Rest}
+use Rattle.pg_gate.specs.declared.at_rest.Rest.{Rest}
 use Rattle.pg_gate.specs.declared.spans.Span.{Span}
 use Rattle.pg_gate.proofs.Sealing.{batches_from}
 use Rattle.pg_gate.proofs.Unique.{stands_fit}
 use Rattle.pg_journal.specs.declared.journal.Journal.{Journal}
-use Rattle.pg_journal.specs.Generations.{as_read, bytes_of, IsAscending, IsBefore, IsGeneration, IsLastThere, HasNoGeneration, HasNoneThere}
+use Rattle.pg_journal.specs.Generations.{IsAscending, IsBefore, IsGeneration, IsLastThere, HasNoGeneration, HasNoneThere}
+use Rattle.pg_disk.specs.Views.{as_read, bytes_of}
 use Rattle.pg_journal.specs.Looks.{AreGenerations, IsFound}
-use Rattle.pg_journal.specs.Stands.{name_of, IsIdle, Settles, StaysOrSettles}
+use Rattle.pg_journal.specs.Stands.{name_of, IsIdle, ComesToRest, StaysOrComesToRest}
 use Rattle.pg_journal.proofs.Cuts.{none_placed, some_placed}
 use Rattle.pg_journal.proofs.Law.{none_alone}
 use Rattle.pg_journal.proofs.Order.{same_or_not, not_itself_by}
@@ -38,22 +39,22 @@ rests_idle : (gate : ℕ) (o : Option FileState) → RestsAt gate [] o → IsIdl
 rests_idle gate None rests = absurd rests
 rests_idle gate (Some s) rests = (rests.quiet, rests_none gate s rests)
 
-pub settles_idle : (s t : Option FileState) → Settles s t → IsIdle t
+pub settles_idle : (s t : Option FileState) → ComesToRest s t → IsIdle t
 settles_idle None t settles = subst IsIdle (sym settles) tt
 settles_idle (Some s) t settles = rests_idle 0 t settles.1
 
-pub settles_none : (s t : Option FileState) → Settles s t → HasNone (bytes_of s)
+pub settles_none : (s t : Option FileState) → ComesToRest s t → HasNone (bytes_of s)
 settles_none None t settles = tt
 settles_none (Some s) t settles = settles.0
 
 -- what was there is there
-pub stays_there : (s : FileState) (t : Option FileState) → StaysOrSettles (Some s) t → (u : FileState) × (t ≡ Some u)
+pub stays_there : (s : FileState) (t : Option FileState) → StaysOrComesToRest (Some s) t → (u : FileState) × (t ≡ Some u)
 stays_there s t (inl same) = (s, same)
 stays_there s None (inr settles) = absurd settles.1
 stays_there s (Some u) (inr settles) = (u, refl)
 
 -- and what isn't isn't
-pub stays_away : (s t : Option FileState) → s ≡ None → StaysOrSettles s t → t ≡ None
+pub stays_away : (s t : Option FileState) → s ≡ None → StaysOrComesToRest s t → t ≡ None
 stays_away s t absent (inl same) = same ∙ absent
 stays_away None t absent (inr settles) = settles
 stays_away (Some s) t absent (inr settles) = cc
@@ -62,12 +63,12 @@ one_state : (u s : FileState) → ◌≡◌ {A = Option FileState} (Some u) (Som
 one_state u s e = cc
 
 -- of the bytes as they are now those at first had no batch
-none_first : (s u : FileState) → StaysOrSettles (Some s) (Some u) → Batches u.bytes [] → Batches s.bytes []
+none_first : (s u : FileState) → StaysOrComesToRest (Some s) (Some u) → Batches u.bytes [] → Batches s.bytes []
 none_first s u (inl same) none = subst (λ (v : FileState). Batches v.bytes []) (one_state u s same) none
 none_first s u (inr settles) none = settles.0
 
 -- where they have some they are as at first
-some_first : (s : Option FileState) (u : FileState) (batches : List (List ℕ)) → StaysOrSettles s (Some u) → Batches u.bytes batches → batches ≢ [] → s ≡ Some u
+some_first : (s : Option FileState) (u : FileState) (batches : List (List ℕ)) → StaysOrComesToRest s (Some u) → Batches u.bytes batches → batches ≢ [] → s ≡ Some u
 some_first s u batches (inl same) has some = sym same
 some_first None u batches (inr settles) has some = cc
 some_first (Some s) u batches (inr settles) has some = absurd (some (none_alone u.bytes batches (rests_none 0 u settles.1) has))
@@ -89,8 +90,8 @@ pub record IsScannedTo (left : List FileId) (found : Option (Journal × Vec Span
   pub distinct : AllPairs (λ a b. a ≢ b) left
   pub fresh : (file : FileId) → Contains left file → get now file ≡ get old file
   pub there : (file : FileId) → Contains left file → (file.kind ≡ OfJournal) × IsFileThere file old
-  pub each : (file : FileId) → file.kind ≡ OfJournal → StaysOrSettles (get old file) (get now file)
-  pub behind : (file : FileId) → file.kind ≡ OfJournal → Contains left file ⊎ Settles (get old file) (get now file)
+  pub each : (file : FileId) → file.kind ≡ OfJournal → StaysOrComesToRest (get old file) (get now file)
+  pub behind : (file : FileId) → file.kind ≡ OfJournal → Contains left file ⊎ ComesToRest (get old file) (get now file)
   pub last : LastOf left found old now
 
 pub none_scanned : (generations : List FileId) (files : FinMap file_cmp FileState) → AreGenerations generations files → IsScannedTo generations None files files
@@ -100,7 +101,7 @@ none_scanned generations files are = record {
   fresh = λ file is_in. refl;
   there = are.there;
   each = λ file kind. inl refl;
-  behind = λ file kind. ⊎_elim inl (λ absent. inr (subst (λ o. Settles o o) (sym absent) refl)) (are.all file kind);
+  behind = λ file kind. ⊎_elim inl (λ absent. inr (subst (λ o. ComesToRest o o) (sym absent) refl)) (are.all file kind);
   last = are.all;
 }
 
@@ -109,10 +110,10 @@ module _ (old mid : FinMap file_cmp FileState) (left : List FileId) (file : File
   next_there = so_far.there file (Contains-push left file)
 
   pub next_now : IsFileThere file mid
-  next_now = stays_there next_there.1.0 (get mid file) (subst (λ s. StaysOrSettles s (get mid file)) next_there.1.1 (so_far.each file next_there.0))
+  next_now = stays_there next_there.1.0 (get mid file) (subst (λ s. StaysOrComesToRest s (get mid file)) next_there.1.1 (so_far.each file next_there.0))
 
-  next_stays : StaysOrSettles (Some next_there.1.0) (Some next_now.0)
-  next_stays = subst (λ t. StaysOrSettles (Some next_there.1.0) t) next_now.1 (subst (λ s. StaysOrSettles s (get mid file)) next_there.1.1 (so_far.each file next_there.0))
+  next_stays : StaysOrComesToRest (Some next_there.1.0) (Some next_now.0)
+  next_stays = subst (λ t. StaysOrComesToRest (Some next_there.1.0) t) next_now.1 (subst (λ s. StaysOrComesToRest s (get mid file)) next_there.1.1 (so_far.each file next_there.0))
 
   module _ (now : FinMap file_cmp FileState) (rest : Rest) (spans : Vec Span Global) (own : file_of rest ≡ file) (scanned : (s : FileState) → get mid file ≡ Some s → IsScanned s.bytes rest spans.items (get now file))
       (others : (f : FileId) → f ≢ file → get now f ≡ get mid f) where
@@ -130,8 +131,8 @@ module _ (old mid : FinMap file_cmp FileState) (left : List FileId) (file : File
       rests : RestsAt 0 [] (get now file)
       rests = subst (λ (gate : ℕ). RestsAt gate [] (get now file)) at_first_gate (subst (λ bs. RestsAt rest.gate bs (get now file)) no_batch is.stands)
 
-      settled : Settles (get old file) (get now file)
-      settled = subst (λ s. Settles s (get now file)) (sym next_there.1.1) (none_first next_there.1.0 next_now.0 next_stays (subst (λ bs. Batches next_now.0.bytes bs) no_batch is.are), rests)
+      settled : ComesToRest (get old file) (get now file)
+      settled = subst (λ s. ComesToRest s (get now file)) (sym next_there.1.1) (none_first next_there.1.0 next_now.0 next_stays (subst (λ bs. Batches next_now.0.bytes bs) no_batch is.are), rests)
 
       keeps_last : (l : Option (Journal × Vec Span Global)) → LastOf (left ++ file ∷ []) l old mid → LastOf left (option_or l (Some (record { rest = rest }, spans))) old now
       keeps_last None all = record {
@@ -156,17 +157,17 @@ module _ (old mid : FinMap file_cmp FileState) (left : List FileId) (file : File
         distinct = front_pairs (λ a b. a ≢ b) left file so_far.distinct;
         fresh = λ other is_in. others other (with_last (λ a b. a ≢ b) left file so_far.distinct other is_in) ∙ so_far.fresh other (Contains-append_left left (file ∷ []) other is_in);
         there = λ other is_in. so_far.there other (Contains-append_left left (file ∷ []) other is_in);
-        each = λ other kind. ⊎_elim (λ same. inr (settles_by other same)) (λ ne. subst (λ t. StaysOrSettles (get old other) t) (sym (others other ne)) (so_far.each other kind)) (same_or_not other file);
+        each = λ other kind. ⊎_elim (λ same. inr (settles_by other same)) (λ ne. subst (λ t. StaysOrComesToRest (get old other) t) (sym (others other ne)) (so_far.each other kind)) (same_or_not other file);
         behind = λ other kind. ⊎_elim (λ same. inr (settles_by other same)) (λ ne. behind other ne (so_far.behind other kind)) (same_or_not other file);
         last = keeps_last last so_far.last;
       }
         where
-          settles_by : (other : FileId) → other ≡ file → Settles (get old other) (get now other)
-          settles_by other same = subst (λ f. Settles (get old f) (get now f)) (sym same) settled
+          settles_by : (other : FileId) → other ≡ file → ComesToRest (get old other) (get now other)
+          settles_by other same = subst (λ f. ComesToRest (get old f) (get now f)) (sym same) settled
 
-          behind : (other : FileId) → other ≢ file → Contains (left ++ file ∷ []) other ⊎ Settles (get old other) (get mid other) → Contains left other ⊎ Settles (get old other) (get now other)
+          behind : (other : FileId) → other ≢ file → Contains (left ++ file ∷ []) other ⊎ ComesToRest (get old other) (get mid other) → Contains left other ⊎ ComesToRest (get old other) (get now other)
           behind other ne (inl is_in) = ⊎_elim inl (λ same. absurd (ne (sym same))) (Contains-push_cases left file other is_in)
-          behind other ne (inr settles) = inr (subst (λ t. Settles (get old other) t) (sym (others other ne)) settles)
+          behind other ne (inr settles) = inr (subst (λ t. ComesToRest (get old other) t) (sym (others other ne)) settles)
 
     -- where it has one
     module _ (some : false ≡ (spans.len == 0)) where
@@ -174,7 +175,7 @@ module _ (old mid : FinMap file_cmp FileState) (left : List FileId) (file : File
       a_batch = some_placed spans.items spans.len is.batches is.places spans.ok.0 some
 
       as_first : get old file ≡ Some next_now.0
-      as_first = some_first (get old file) next_now.0 is.batches (subst (λ t. StaysOrSettles (get old file) t) next_now.1 (so_far.each file next_there.0)) is.are a_batch
+      as_first = some_first (get old file) next_now.0 is.batches (subst (λ t. StaysOrComesToRest (get old file) t) next_now.1 (so_far.each file next_there.0)) is.are a_batch
 
       generation : IsGeneration (as_read old) file is.batches
       generation = record {
@@ -197,7 +198,7 @@ module _ (old mid : FinMap file_cmp FileState) (left : List FileId) (file : File
         };
         places = is.places;
         goes_on = inl (is.batches, subst (λ f. IsGeneration (as_read old) f is.batches) (sym own) generation);
-        others = λ other kind ne. subst (λ t. StaysOrSettles (get old other) t) (sym (others other (subst (λ f. other ≢ f) own ne))) (so_far.each other kind);
+        others = λ other kind ne. subst (λ t. StaysOrComesToRest (get old other) t) (sym (others other (subst (λ f. other ≢ f) own ne))) (so_far.each other kind);
       }
         where
           idle : (other : FileId) → other.kind ≡ OfJournal → IsBefore file other → IsIdle (get now other)
@@ -210,7 +211,7 @@ none_left (file ∷ left) none = absurd (omega (arith, none))
 
 -- where none is left
 module _ (old now : FinMap file_cmp FileState) where
-  all_settled : (last : Option (Journal × Vec Span Global)) → IsScannedTo [] last old now → (file : FileId) → file.kind ≡ OfJournal → Settles (get old file) (get now file)
+  all_settled : (last : Option (Journal × Vec Span Global)) → IsScannedTo [] last old now → (file : FileId) → file.kind ≡ OfJournal → ComesToRest (get old file) (get now file)
   all_settled last so_far file kind = ⊎_elim (λ is_in. absurd (contains_none file is_in)) (λ settles. settles) (so_far.behind file kind)
 
   none_now : IsScannedTo [] None old now → (file : FileId) → file.kind ≡ OfJournal → (get old file ≡ None) × (get now file ≡ None)
@@ -235,7 +236,7 @@ module _ (old now : FinMap file_cmp FileState) where
     others = λ other kind ne. inr (settled other kind);
   }
     where
-      settled : (file : FileId) → file.kind ≡ OfJournal → Settles (get old file) (get now file)
+      settled : (file : FileId) → file.kind ≡ OfJournal → ComesToRest (get old file) (get now file)
       settled = all_settled (Some found) so_far
 
       none : HasNoGeneration (as_read old)

@@ -1,30 +1,11 @@
 -- Which of the journal's files counts, and what the journal says.
-use Rattle.std.specs.Prelude.{◌≡◌, ◌≢◌, ◌⊎◌, ◌<◌, ℕ, Bool, true, false, List, [], Option, Some, None}
-use Rattle.std.specs.FinMap.{FinMap, get}
+use Rattle.std.specs.Prelude.{◌≡◌, ◌≢◌, ◌⊎◌, ◌<◌, ℕ, Bool, true, false, List, [], Some, None}
 use Rattle.std.specs.List.{AllPairs}
 use Rattle.pg_disk.specs.declared.file_id.FileId.{FileId}
 use Rattle.pg_disk.specs.declared.file_id.Kind.{Kind}
 use Rattle.pg_disk.specs.declared.file_id.Kind.TheVariants.{Journal, Page, Large}
-use Rattle.pg_disk.specs.Account.{FileState}
-use Rattle.pg_disk.specs.Files.{file_cmp, Files}
+use Rattle.pg_disk.specs.Views.{Contents}
 use Rattle.pg_gate.specs.Gated.{AllFit, HasBatches, HasNone}
-
--- what each file has in it
-abbrev pub Contents : Type 0
-Contents = FileId → Option (List ℕ)
-
--- the bytes of a file as read, where it is there
-abbrev pub bytes_of : Option FileState → Option (List ℕ)
-bytes_of None = None
-bytes_of (Some s) = Some s.bytes
-
--- the contents of the files as read
-abbrev pub as_read : FinMap file_cmp FileState → Contents
-as_read files = λ file. bytes_of (get files file)
-
--- the contents that a crash left
-abbrev pub as_left : Files → Contents
-as_left image = λ file. get image file
 
 -- whether a file of this kind is a generation of the journal
 abbrev pub is_of_journal : Kind → Bool
@@ -58,7 +39,8 @@ HasNoGeneration contents = (file : FileId) → file.kind ≡ Journal → HasNone
 
 -- what the journal says: the batches of the last generation that has one, or nothing
 abbrev pub JournalOf : Contents → List (List ℕ) → Type 0
-JournalOf contents batches = ((file : FileId) × IsGeneration contents file batches) ⊎ (HasNoGeneration contents × (batches ≡ []))
+JournalOf contents batches =
+    ((file : FileId) × IsGeneration contents file batches) ⊎ (HasNoGeneration contents × (batches ≡ []))
 
 -- the last generation that is there
 pub record IsLastThere (contents : Contents) (file : FileId) : Type 0 where
@@ -74,8 +56,8 @@ HasNoneThere contents = (file : FileId) → file.kind ≡ Journal → contents f
 abbrev pub first_generation : FileId
 first_generation = record { kind = Journal; owner = 0; number = 1 }
 
--- The file with which the journal goes on: the last generation that has a batch, where none has the last one that is there, and the first one where
--- none is there.
+-- The file with which the journal goes on: the last generation that has a batch, where none has the last one that is
+-- there, and the first one where none is there.
 abbrev pub GoesOn : Contents → FileId → Type 0
 GoesOn contents file =
     ((batches : List (List ℕ)) × IsGeneration contents file batches)

@@ -3,7 +3,7 @@ use Rattle.std.specs.Prelude.{◌≡◌, ◌≢◌, ◌⊎◌, ℕ, List, [], Op
 use Rattle.std.specs.FinMap.{FinMap, get}
 use Rattle.pg_disk.specs.declared.file_id.FileId.{FileId}
 use Rattle.pg_disk.specs.declared.file_id.Kind.TheVariants.{Journal as OfJournal}
-use Rattle.pg_disk.specs.Account.{FileState, IsQuiet}
+use Rattle.pg_disk.specs.Account.{FileState, IsQuiet, IsQuietAt}
 use Rattle.pg_disk.specs.Files.{file_cmp}
 use Rattle.pg_gate.specs.Gated.{Batches, RestsAt, StandsFor, file_of, counted_length}
 use Rattle.pg_journal.specs.declared.journal.Journal.{Journal}
@@ -22,27 +22,23 @@ abbrev pub IsIdle : Option FileState → Type 0
 IsIdle None = Unit {0}
 IsIdle (Some s) = IsQuiet s × Batches s.bytes []
 
--- Among these files the journal stands for these batches: its file is at rest and has them, and no generation behind it has a batch,
--- nor any other where it has none itself.
+-- Among these files the journal stands for these batches: its file is at rest and has them, and no generation behind it
+-- has a batch, nor any other where it has none itself.
 pub record Stands (journal : Journal) (batches : List (List ℕ)) (files : FinMap file_cmp FileState) : Type 0 where
   pub kind : (name_of journal).kind ≡ OfJournal
   pub stands : StandsFor journal.rest batches (get files (name_of journal))
   pub last : (other : FileId) → other.kind ≡ OfJournal → IsBefore (name_of journal) other → IsIdle (get files other)
-  pub alone : batches ≡ [] → (other : FileId) → other.kind ≡ OfJournal → other ≢ name_of journal → IsIdle (get files other)
+  pub alone : batches ≡ [] → (other : FileId) → other.kind ≡ OfJournal → other ≢ name_of journal →
+      IsIdle (get files other)
 
 -- the file had no batch, and is at rest without one, or it wasn't there and isn't
-abbrev pub Settles : Option FileState → Option FileState → Type 0
-Settles None t = t ≡ None
-Settles (Some s) t = Batches s.bytes [] × RestsAt 0 [] t
+abbrev pub ComesToRest : Option FileState → Option FileState → Type 0
+ComesToRest None t = t ≡ None
+ComesToRest (Some s) t = Batches s.bytes [] × RestsAt 0 [] t
 
 -- the file is as it was, or it had no batch and is at rest without one
-abbrev pub StaysOrSettles : Option FileState → Option FileState → Type 0
-StaysOrSettles s t = (t ≡ s) ⊎ Settles s t
-
--- nothing of the file is pending, if it is there
-abbrev pub IsQuietAt : Option FileState → Type 0
-IsQuietAt None = Unit {0}
-IsQuietAt (Some s) = IsQuiet s
+abbrev pub StaysOrComesToRest : Option FileState → Option FileState → Type 0
+StaysOrComesToRest s t = (t ≡ s) ⊎ ComesToRest s t
 
 -- nothing of any generation is pending
 abbrev pub AreQuiet : FinMap file_cmp FileState → Type 0

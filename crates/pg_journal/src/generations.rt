@@ -2,11 +2,11 @@
 ghost use Rattle.std.specs.Prelude.{◌≡◌, All, IfOk, IfErr};
 ghost use Rattle.std.specs.List.{filter};
 ghost use Rattle.std.specs.List.Sorted.{IsPermutation};
-ghost use Rattle.pg_disk.specs.Account.{account, IsHonest};
-ghost use Rattle.pg_disk.specs.Calls.{Changes, Reads};
+ghost use Rattle.pg_disk.specs.Calls.{Reads};
 ghost use Rattle.pg_disk.specs.Counts.{CountsFault};
 ghost use Rattle.pg_disk.specs.Image.{Leaves};
 ghost use Rattle.pg_disk.specs.Moments.{Within};
+ghost use Rattle.pg_disk.specs.Sites.{OnFiles, Steps};
 ghost use Rattle.pg_journal.specs.Generations.{is_generation, IsAscending};
 ghost use Rattle.pg_journal.specs.Looks.{AreGenerations, IsCutGeneration};
 
@@ -27,9 +27,9 @@ fn sorted_generations(mut files: Vec<FileId>) -> Result<Vec<FileId>, AllocError>
 // The generations that are there, ascending by number and then by owner.
 pub(crate) fn generations<D: Disk>(alloc: Global, disk: &mut D) -> Result<Vec<FileId>, Fault>
     ensures kinds { IfOk result (λ found. All (λ file. file.kind ≡ Kind.Journal) found.items) }
-    ensures listed { IfOk result (λ found. IsHonest (D.tells disk.old) → AreGenerations found.items (account (D.tells disk.old)).files) }
-    ensures same { Changes (D.tells disk.old) (D.tells disk.new) (Reads 0) }
-    ensures any_moment { Within D.moment D.left_since disk.old disk.new (Leaves (D.tells disk.old)) }
+    ensures listed { IfOk result (λ found. OnFiles D.Disk disk.old (AreGenerations found.items)) }
+    ensures same { Steps D.Disk disk.old disk.new (Reads 0) }
+    ensures any_moment { Within D.Disk disk.old disk.new Leaves }
     ensures undamaged { IfErr result (IsCutGeneration (D.tells disk.old)) }
     ensures cause { CountsFault (D.faults disk.old) (D.faults disk.new) result }
 {

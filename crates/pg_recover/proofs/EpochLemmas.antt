@@ -7,9 +7,9 @@ use Rattle.pg_disk.specs.declared.fault.Rule.TheVariants.{Repeat}
 use Rattle.pg_disk.specs.declared.file_id.FileId.{FileId}
 use Rattle.pg_disk.specs.declared.file_id.Kind.TheVariants.{Journal as OfJournal}
 use Rattle.pg_disk.specs.Files.{Files}
-use Rattle.pg_disk.specs.Account.{FileState, Account, account, IsHonest}
+use Rattle.pg_disk.specs.Account.{FileState, Account, account, IsHonest, IsQuietAt, AllQuiet}
 use Rattle.pg_disk.specs.Calls.{Changes, ChangesFile}
-use Rattle.pg_disk.specs.Image.{Leaves}
+use Rattle.pg_disk.specs.Image.{IsLeftAt, Leaves, MayBeRemoved}
 use Rattle.pg_gate.specs.Gated.{RestsAt}
 use Rattle.pg_records.specs.declared.entry.Entry.{Entry}
 use Rattle.pg_records.specs.declared.entry.Entry.TheVariants.{Epoch}
@@ -18,18 +18,20 @@ use Rattle.pg_fold.specs.declared.durable.Durable.{Durable}
 use Rattle.pg_fold.specs.Fold.{fresh, IsApplied}
 use Rattle.pg_fold.proofs.FoldLaws.{fold_applied}
 use Rattle.pg_journal.specs.declared.journal.Journal.{Journal}
-use Rattle.pg_journal.specs.Generations.{as_left, as_read, JournalOf}
+use Rattle.pg_journal.specs.Generations.{JournalOf}
+use Rattle.pg_disk.specs.Views.{as_left, as_read}
 use Rattle.pg_journal.specs.Looks.{LeavesOldOrNew}
-use Rattle.pg_journal.specs.Stands.{IsQuietAt, Stands, name_of}
+use Rattle.pg_journal.specs.Stands.{Stands, name_of}
 use Rattle.pg_journal.proofs.Order.{same_or_not}
 use Rattle.pg_journal.proofs.Saying.{stands_kept, stands_says}
 use Rattle.pg_recover.specs.Denotation.{raised}
 use Rattle.pg_recover.specs.Folding.{FoldsFrom}
 use Rattle.pg_recover.specs.Raising.{IsReady, LeavesRaised}
-use Rattle.pg_recover.specs.Recovered.{AllQuiet, Owns}
+use Rattle.pg_recover.specs.Recovered.{Owns}
 use Rattle.pg_recover.specs.Removing.{HasNoOther, LeavesOthersGone, RemovesOthers}
 use Rattle.pg_recover.specs.Said.{KeepsWhole}
 use Rattle.pg_recover.proofs.OneState.{folds_to}
+use Rattle.pg_recover.proofs.RemovingLemmas.{all_left}
 use Rattle.pg_recover.proofs.WellLemmas.{added_keeps, adding_keeps, gone_keeps}
 
 -- a batch more
@@ -56,35 +58,39 @@ module _ (d : Durable) (payload : List ℕ) (is : payload ≡ batch_bytes (Epoch
   }
 
   module _ (journal : Journal) (old : Option Account) (list : List FileId) (ready : IsHonest old → IsReady journal d list (account old).files) where
+    left_or_gone : (s : Option FileState) (left : Option (List ℕ)) → MayBeRemoved s left → IsLeftAt s left ⊎ (left ≡ None)
+    left_or_gone s left (inl gone) = inr gone
+    left_or_gone s left (inr is) = inl is
+
     -- while nothing is added, and other generations may be gone
     pub gone_leaves : (c : Files) (b : List ℕ) → LeavesOthersGone (name_of journal) old c b → LeavesRaised journal d old c b
     gone_leaves c b left = record {
       honest = left.honest;
-      nothing = left.nothing;
+      nothing = left.told;
       denotes = λ batches stands folds. inl (folds_to (as_left c) batches d
-          (stands_says journal batches (account old).files stands c (left.kept (name_of journal) (λ other. other.1 refl)) (λ file kind other. left.gone file)) folds);
+          (stands_says journal batches (account old).files stands c (left.others (name_of journal) (λ other. other.1 refl)) (λ file kind other. left_or_gone (get (account old).files file) (get c file) (left.left file))) folds);
       keeps = gone_keeps (name_of journal) old (ready left.honest).quiet c b left;
     }
 
     pub nothing_leaves : (c : Files) (b : List ℕ) → Leaves old c b → LeavesRaised journal d old c b
-    nothing_leaves c b left = gone_leaves c b (record { honest = left.honest; nothing = left.told; kept = λ file keeps. left.image file; gone = λ file. inl (left.image file) })
+    nothing_leaves c b left = gone_leaves c b (all_left (name_of journal) old c b left)
 
     module _ (mid : Option Account) (removed : Changes old mid (RemovesOthers (name_of journal))) where
       pub stands_still : IsHonest old → (batches : List (List ℕ)) → Stands journal batches (account old).files → Stands journal batches (account mid).files
       stands_still honest batches stands =
           let a = removed.step honest in
-          stands_kept journal batches (account old).files (account mid).files stands (a.kept (name_of journal) (λ other. other.1 refl)) (λ file kind other. a.gone file)
+          stands_kept journal batches (account old).files (account mid).files stands (a.others (name_of journal) (λ other. other.1 refl)) (λ file kind other. a.change file)
 
       module _ (alone : IsHonest old → HasNoOther (name_of journal) (account mid).files) where
         kept_beside : IsHonest old → (file : FileId) → file.kind ≢ OfJournal → get (account mid).files file ≡ get (account old).files file
-        kept_beside honest file kind = (removed.step honest).kept file (λ other. kind other.0)
+        kept_beside honest file kind = (removed.step honest).others file (λ other. kind other.0)
 
         adding_whole : IsHonest old → (c : Files) (b : List ℕ) → LeavesOldOrNew journal payload mid c b → KeepsWhole (as_read (account old).files) (as_left c)
         adding_whole honest c b left =
             let is = ready honest in
             let keeps : (said : List (List ℕ)) → JournalOf (as_left c) said → KeepsWhole (as_read (account old).files) (as_left c)
             = adding_keeps journal is.batches (account old).files (account mid).files is.stands (alone honest) (kept_beside honest) is.quiet c left.others in
-            ⊎_elim (keeps is.batches) (keeps (is.batches ++ payload ∷ [])) (left.says is.batches (stands_still honest is.batches is.stands))
+            ⊎_elim (keeps is.batches) (keeps (is.batches ++ payload ∷ [])) (left.left is.batches (stands_still honest is.batches is.stands))
 
         -- while the batch is added
         pub adding_leaves : (c : Files) (b : List ℕ) → LeavesOldOrNew journal payload mid c b → LeavesRaised journal d old c b
@@ -92,9 +98,9 @@ module _ (d : Durable) (payload : List ℕ) (is : payload ≡ batch_bytes (Epoch
             let honest = removed.back left.honest in
             record {
               honest = honest;
-              nothing = left.nothing ∙ (removed.step honest).told;
+              nothing = left.told ∙ (removed.step honest).told;
               denotes = λ batches stands folds. ⊎_elim (λ says. inl (folds_to (as_left c) batches d says folds)) (λ says. inr (folds_to (as_left c) (batches ++ payload ∷ []) (raised d) says (raised_folds batches folds)))
-                  (left.says batches (stands_still honest batches stands));
+                  (left.left batches (stands_still honest batches stands));
               keeps = adding_whole honest c b left;
             }
 
@@ -135,6 +141,6 @@ module _ (d : Durable) (payload : List ℕ) (is : payload ≡ batch_bytes (Epoch
                 },
                 λ file. ⊎_elim
                     (λ own. subst (λ f. IsQuietAt (get (account new).files f)) (sym own) (rests_quiet next.rest.gate (is.batches ++ payload ∷ []) (get (account new).files (name_of next)) stand.stands))
-                    (λ other. subst IsQuietAt (sym (b.others file (subst (λ f. file ≢ f) same other))) (quiet_or_gone (get (account old).files file) (get (account mid).files file) (is.quiet file) (a.gone file)))
+                    (λ other. subst IsQuietAt (sym (b.others file (subst (λ f. file ≢ f) same other))) (quiet_or_gone (get (account old).files file) (get (account mid).files file) (is.quiet file) (a.change file)))
                     (same_or_not file (name_of next)),
               )

@@ -7,17 +7,20 @@ use Rattle.pg_disk.specs.declared.file_id.FileId.{FileId}
 use Rattle.pg_disk.specs.declared.file_id.Kind.TheVariants.{Journal as OfJournal}
 use Rattle.pg_disk.specs.Files.{file_cmp}
 use Rattle.pg_disk.specs.Account.{FileState, Account, account, IsHonest}
-use Rattle.pg_disk.specs.Calls.{Changes, Reads}
+use Rattle.pg_disk.specs.Calls.{Changes, Reads, ReadsSome}
+use Rattle.pg_disk.specs.Image.{AnyFile}
+use Rattle.pg_disk.proofs.Composing.{changes_then, changes_weaker, where_wider}
 use Rattle.pg_gate.specs.Gated.{Batches, HasBatches, HasNone, RestsAt}
 use Rattle.pg_gate.specs.Spans.{IsMendable, StaysOrMends}
 use Rattle.pg_journal.specs.declared.journal.Journal.{Journal}
-use Rattle.pg_journal.specs.Generations.{as_read, bytes_of, GoesOn, HasNoGeneration, HasNoneThere, JournalOf}
-use Rattle.pg_journal.specs.Looks.{KeepsAtDamage, KeepsDamaged, ReadsGenerations}
-use Rattle.pg_journal.specs.Stands.{Stands, StaysOrSettles, name_of}
+use Rattle.pg_journal.specs.Generations.{GoesOn, HasNoGeneration, HasNoneThere, JournalOf}
+use Rattle.pg_disk.specs.Views.{as_read, bytes_of}
+use Rattle.pg_journal.specs.Looks.{IsOfJournal, KeepsAtDamage, KeepsDamaged, MendsGenerations, ReadsGenerations}
+use Rattle.pg_journal.specs.Stands.{Stands, StaysOrComesToRest, name_of}
 use Rattle.pg_journal.proofs.Law.{journal_unique, none_alone}
 use Rattle.pg_journal.proofs.Order.{same_or_not}
 use Rattle.pg_journal.proofs.Scanned.{rests_none}
-use Rattle.pg_recover.specs.Recovered.{AreKept, IsKeptGeneration, IsMended, KeepsFiles}
+use Rattle.pg_recover.specs.Recovered.{AreKept, IsKeptGeneration, IsMended, KeepsBytes, KeepsFiles}
 
 one_or_not : (n : ℕ) → (n ≡ 1) ⊎ (n ≢ 1)
 one_or_not n = grind arith
@@ -61,7 +64,7 @@ StaysOrMended s t = (bytes_of t ≡ bytes_of s) ⊎ IsMended (bytes_of s) (bytes
 none_now : (s : FileState) (t : Option FileState) → StaysOrMends (Some s) t → HasBatches [] (bytes_of t) → StaysOrMended (Some s) t
 none_now s t stays has = ⊎_elim (λ mends. inr (mends, has)) (λ solid. let u = stays solid in inl (ap bytes_of u.1 ∙ ap Some u.2)) (mendable_or_not s.bytes)
 
-settled : (s t : Option FileState) → StaysOrMends s t → StaysOrSettles s t → StaysOrMended s t
+settled : (s t : Option FileState) → StaysOrMends s t → StaysOrComesToRest s t → StaysOrMended s t
 settled s t stays (inl same) = inl (ap bytes_of same)
 settled None t stays (inr settles) = inl (ap bytes_of settles)
 settled (Some s) t stays (inr settles) = none_now s t stays (rests_has 0 t settles.1)
@@ -81,24 +84,19 @@ none_before (Some s) t stays there has = none_now s t stays has
 none_there : (files : FinMap file_cmp FileState) → HasNoneThere (as_read files) → HasNoGeneration (as_read files)
 none_there files none file kind = subst HasNone (sym (none file kind)) tt
 
+-- what is said of generations alone
+where_kept : (old new : Account) → ReadsGenerations old new → ((file : FileId) → file.kind ≡ OfJournal → IsKeptGeneration (as_read old.files) (as_read new.files) file) → KeepsFiles old new
+where_kept old new a kept = where_wider IsOfJournal AnyFile ReadsSome ReadsSome MendsGenerations KeepsBytes old new a (λ f kind. tt) (λ more. more)
+    (λ mends. record { others = λ f kind. ap bytes_of (a.others f kind); generations = kept })
+
 -- where damage was found in a generation
 module _ (old new : Option Account) (stays : Changes old new ReadsGenerations) where
   damaged_keeps : (damaged : FileId) → (IsHonest old → KeepsDamaged damaged (account old).files (account new).files) → Changes old new KeepsFiles
-  damaged_keeps damaged keeps = record {
-    kept = stays.kept;
-    back = stays.back;
-    step = λ h.
-        let a = stays.step h in
-        let k = keeps h in
-        record {
-          told = a.told;
-          others = λ file kind. ap bytes_of (a.others file kind);
-          generations = λ file kind. ⊎_elim
-              (λ same. inl (subst (λ f. bytes_of (get (account new).files f) ≡ bytes_of (get (account old).files f)) (sym same) k.bytes))
-              (λ other. ⊎_elim (λ is. inl is) (λ is. inr (inl is)) (settled (get (account old).files file) (get (account new).files file) (a.generations file kind) (k.others file kind other)))
-              (same_or_not file damaged);
-        };
-  }
+  damaged_keeps damaged keeps = changes_weaker old new ReadsGenerations KeepsFiles stays (λ h a. where_kept (account old) (account new) a (λ file kind.
+      let k = keeps h in
+      ⊎_elim (λ same. inl (subst (λ f. bytes_of (get (account new).files f) ≡ bytes_of (get (account old).files f)) (sym same) k.bytes))
+      (λ other. ⊎_elim (λ is. inl is) (λ is. inr (inl is)) (settled (get (account old).files file) (get (account new).files file) (a.change.generations file kind) (k.others file kind other)))
+      (same_or_not file damaged)))
 
   pub find_kept : (e : Fault) → KeepsAtDamage old new e → AreKept old new e
   find_kept Failed keeps = tt
@@ -110,7 +108,7 @@ module _ (old new : Option Account) (stays : Changes old new ReadsGenerations) w
 module _ (old mid : Option Account) (stays : Changes old mid ReadsGenerations) (journal : Journal)
     (found : IsHonest old → (batches : List (List ℕ)) × JournalOf (as_read (account old).files) batches × Stands journal batches (account mid).files)
     (goes_on : IsHonest old → GoesOn (as_read (account old).files) (name_of journal))
-    (others : IsHonest old → (file : FileId) → file.kind ≡ OfJournal → (file ≡ name_of journal → ⊥) → StaysOrSettles (get (account old).files file) (get (account mid).files file)) where
+    (others : IsHonest old → (file : FileId) → file.kind ≡ OfJournal → (file ≡ name_of journal → ⊥) → StaysOrComesToRest (get (account old).files file) (get (account mid).files file)) where
   -- a journal without a batch has a file without one
   own_none : (honest : IsHonest old) → HasNoGeneration (as_read (account old).files) → HasBatches [] (bytes_of (get (account mid).files (name_of journal)))
   own_none honest none =
@@ -120,41 +118,25 @@ module _ (old mid : Option Account) (stays : Changes old mid ReadsGenerations) (
 
   own_kept : (honest : IsHonest old) → (name_of journal).kind ≡ OfJournal → GoesOn (as_read (account old).files) (name_of journal) → IsKeptGeneration (as_read (account old).files) (as_read (account mid).files) (name_of journal)
   own_kept honest kind (inl has) =
-      inl (some_before (get (account old).files (name_of journal)) (get (account mid).files (name_of journal)) has.0 ((stays.step honest).generations (name_of journal) kind) has.1.has has.1.some)
+      inl (some_before (get (account old).files (name_of journal)) (get (account mid).files (name_of journal)) has.0 ((stays.step honest).change.generations (name_of journal) kind) has.1.has has.1.some)
   own_kept honest kind (inr (inl last)) = ⊎_elim (λ is. inl is) (λ is. inr (inl is))
-      (none_before (get (account old).files (name_of journal)) (get (account mid).files (name_of journal)) ((stays.step honest).generations (name_of journal) kind) last.1.there (own_none honest last.0))
+      (none_before (get (account old).files (name_of journal)) (get (account mid).files (name_of journal)) ((stays.step honest).change.generations (name_of journal) kind) last.1.there (own_none honest last.0))
   own_kept honest kind (inr (inr none)) = inr (inr (record { first = none.1; none = none.0; empty = own_none honest (none_there (account old).files none.0) }))
 
   found_keeps : Changes old mid KeepsFiles
-  found_keeps = record {
-    kept = stays.kept;
-    back = stays.back;
-    step = λ h.
-        let a = stays.step h in
-        record {
-          told = a.told;
-          others = λ file kind. ap bytes_of (a.others file kind);
-          generations = λ file kind. ⊎_elim
-              (λ same. subst (λ f. IsKeptGeneration (as_read (account old).files) (as_read (account mid).files) f) (sym same) (own_kept h (subst (λ (f : FileId). f.kind ≡ OfJournal) same kind) (goes_on h)))
-              (λ other. ⊎_elim (λ is. inl is) (λ is. inr (inl is)) (settled (get (account old).files file) (get (account mid).files file) (a.generations file kind) (others h file kind other)))
-              (same_or_not file (name_of journal));
-        };
-  }
+  found_keeps = changes_weaker old mid ReadsGenerations KeepsFiles stays (λ h a. where_kept (account old) (account mid) a (λ file kind.
+      ⊎_elim (λ same. subst (λ f. IsKeptGeneration (as_read (account old).files) (as_read (account mid).files) f) (sym same) (own_kept h (subst (λ (f : FileId). f.kind ≡ OfJournal) same kind) (goes_on h)))
+      (λ other. ⊎_elim (λ is. inl is) (λ is. inr (inl is)) (settled (get (account old).files file) (get (account mid).files file) (a.change.generations file kind) (others h file kind other)))
+      (same_or_not file (name_of journal))))
 
   -- and then read
   pub read_keeps : (new : Option Account) (n : ℕ) → Changes mid new (Reads n) → Changes old new KeepsFiles
-  read_keeps new n reads = record {
-    kept = λ h. reads.kept (found_keeps.kept h);
-    back = λ h. found_keeps.back (reads.back h);
-    step = λ h.
-        let a = found_keeps.step h in
-        let b = reads.step (found_keeps.kept h) in
-        record {
-          told = b.told ∙ a.told;
-          others = λ file kind. ap (λ m. bytes_of (get m file)) b.files ∙ a.others file kind;
-          generations = λ file kind. subst (λ m. IsKeptGeneration (as_read (account old).files) (as_read m) file) (sym b.files) (a.generations file kind);
-        };
-  }
+  read_keeps new n reads = changes_then old mid new KeepsFiles (Reads n) KeepsFiles found_keeps reads (λ h a b. record {
+    told = b.told ∙ a.told;
+    taken = omega (arith, a.taken, b.taken);
+    others = λ f out. absurd (out tt);
+    change = subst (KeepsBytes (account old).files) (sym b.files) a.change;
+  })
 
 pub kept_at : (old new : Option Account) → Changes old new KeepsFiles → (e : Fault) → AreKept old new e
 kept_at old new keeps Failed = tt

@@ -2,11 +2,12 @@
 use Rattle.std.proofs.Common.{◌≡◌, List, ℕ, subst}
 use Rattle.pg_fold.specs.declared.durable.Durable.{Durable}
 use Rattle.pg_fold.specs.Fold.{fresh}
-use Rattle.pg_journal.specs.Generations.{Contents, JournalOf}
+use Rattle.pg_journal.specs.Generations.{JournalOf}
+use Rattle.pg_disk.specs.Views.{Contents}
 use Rattle.pg_journal.proofs.Law.{journal_unique}
 use Rattle.pg_recover.specs.Denotation.{FoldsTo}
-use Rattle.pg_recover.specs.Folding.{FoldsFrom, FoldsNowhere}
-use Rattle.pg_recover.proofs.AlikeLemmas.{one_end}
+use Rattle.pg_recover.specs.Folding.{FoldsFrom}
+use Rattle.pg_recover.proofs.FoldingLemmas.{one_end}
 
 -- what the journal's batches lead to
 pub folds_to : (contents : Contents) (batches : List (List ℕ)) (d : Durable) → JournalOf contents batches → FoldsFrom fresh batches d → FoldsTo contents d
@@ -23,7 +24,3 @@ state_is contents batches d e says folds other = one_end fresh e d batches (fold
 -- two states that are given are one
 pub one_folded : (contents : Contents) (d e : Durable) → FoldsTo contents d → FoldsTo contents e → d ≡ e
 one_folded contents d e folds other = state_is contents other.batches e d other.says (folds_of contents other.batches e other.says other) folds
-
--- or none
-pub none_given : (contents : Contents) (batches : List (List ℕ)) (e : Durable) → JournalOf contents batches → FoldsNowhere fresh batches → FoldsTo contents e → ⊥
-none_given contents batches e says none other = none e (folds_of contents batches e says other)

@@ -1,4 +1,4 @@
--- The listing ascends, so a page stands right behind the page before it.
+-- The listing ascends, so a page that doesn't stand right behind the page before it is behind a gap.
 use Rattle.std.proofs.Common.{◌≡◌, ◌≢◌, ◌⊎◌, inl, inr, ⊎_elim, ℕ, zero, suc, ◌+◌, ◌-◌, ◌<◌, ◌≤◌, Bool, true, false, ◌&&◌, T, List, [], ◌∷◌, map, length, get_or, Option, Some, None, refl, sym, ◌∙◌, ap, subst, arith, is_lt, nat_cmp}
 use Rattle.std.specs.Prelude.{is_some, ◌||◌}
 use Rattle.std.specs.FinMap.{FinMap, get, keys, entries, entries_sorted, contains_key-keys}
@@ -11,17 +11,20 @@ use Rattle.std.proofs.lemmas.List.{get_or_default}
 use Rattle.std.proofs.lemmas.List.Elements.{All-cons, All-contains, All-nil}
 use Rattle.std.proofs.lemmas.List.Kept.{AllPairs-cons}
 use Rattle.std.proofs.lemmas.Map.Views.{Contains-from_any, list_any-from_Contains, tells_apart}
+use Rattle.pg_disk.specs.declared.fault.Damage.{Damage}
+use Rattle.pg_disk.specs.declared.fault.Rule.{Rule}
 use Rattle.pg_disk.specs.declared.file_id.FileId.{FileId}
-use Rattle.pg_disk.specs.declared.file_id.Kind.{Kind}
-use Rattle.pg_disk.specs.declared.file_id.Kind.TheVariants.{Journal, Page, Large}
-use Rattle.pg_disk.specs.Account.{FileState}
+use Rattle.pg_disk.specs.declared.file_id.Kind.TheVariants.{Page}
+use Rattle.pg_disk.specs.Account.{FileState, IsQuietAt}
 use Rattle.pg_disk.specs.Files.{file_cmp, rank}
 use Rattle.pg_disk.specs.Image.{IsFileThere}
 use Rattle.pg_disk.proofs.FileOrder.{files_exact, files_total, tied_self}
+use Rattle.pg_fold.specs.declared.durable.Durable.{Durable}
 use Rattle.pg_fold.specs.declared.rows.AddressRow.{AddressRow}
-use Rattle.pg_journal.specs.Generations.{Contents, as_read, bytes_of}
-use Rattle.pg_journal.specs.Stands.{IsQuietAt}
-use Rattle.pg_recover.specs.Listing.{AreListed, IsNextAs}
+use Rattle.pg_disk.specs.Views.{Contents, as_read, bytes_of}
+use Rattle.pg_recover.specs.Damaging.{IsBrokenFile, IsBrokenThere}
+use Rattle.pg_recover.specs.Denotation.{FoldsTo}
+use Rattle.pg_recover.specs.Listing.{AreListed, HasUnlisted, IsGapAt, IsNextAs, IsUnlisted}
 use Rattle.pg_recover.specs.WellFormed.{IsGapless, IsNamed, IsThere, page_file}
 
 -- one file comes before another in a listing
@@ -139,47 +142,69 @@ IsSeen before fs q = IsAmong fs q ⊎ ((b : FileId) × (before ≡ Some b) × ((
 page_of : (f : FileId) → f.kind ≡ Page → f ≡ page_file f.owner f.number
 page_of f kind = λ i. record { kind = kind i; owner = f.owner; number = f.number }
 
-module _ (addresses : List AddressRow) (contents : Contents) (named : (file : FileId) → IsThere contents file → IsNamed addresses file) (gapless : All (IsGapless contents) addresses) where
-  -- of the page before a page that is there: it stands right before it
-  right_before : (before : Option FileId) (f : FileId) (fs : List FileId) → IsBehind before (f ∷ fs) → AllAbove f fs → (first : ℕ) → first < f.number → f.kind ≡ Page → IsSeen before (f ∷ fs) (page_file f.owner (f.number - 1))
-      → before ≡ Some (page_file f.owner (f.number - 1))
-  right_before before f fs behind above first more kind (inl (inl same)) = absurd (not_itself f first more (ap (λ (x : FileId). x.number) same))
-    where
-      not_itself : (x : FileId) (n : ℕ) → n < x.number → x.number - 1 ≡ x.number → ⊥
-      not_itself x n lt e = omega (arith, lt, e)
-  right_before before f fs behind above first more kind (inl (inr later)) = absurd (not_later f first more kind (above_among f fs (page_file f.owner (f.number - 1)) above later))
-    where
-      not_later : (x : FileId) (n : ℕ) → n < x.number → x.kind ≡ Page → IsLess x (page_file x.owner (x.number - 1)) → ⊥
-      not_later x n lt kind less = let r = ap rank kind in grind arith
-  right_before before f fs behind above first more kind (inr (b, is, inl same)) = is ∙ ap Some (sym same)
-  right_before before f fs behind above first more kind (inr (b, is, inr less)) = absurd (none_between f b first more kind less (subst (λ o. IsBehind o (f ∷ fs)) is behind).0)
-    where
-      none_between : (x y : FileId) (n : ℕ) → n < x.number → x.kind ≡ Page → IsLess (page_file x.owner (x.number - 1)) y → IsLess y x → ⊥
-      none_between x y n lt kind low high = let r = ap rank kind in grind arith
+-- of the page before a page that is there: it stands right before it
+right_before : (before : Option FileId) (f : FileId) (fs : List FileId) → IsBehind before (f ∷ fs) → AllAbove f fs → (first : ℕ) → first < f.number → f.kind ≡ Page → IsSeen before (f ∷ fs) (page_file f.owner (f.number - 1))
+    → before ≡ Some (page_file f.owner (f.number - 1))
+right_before before f fs behind above first more kind (inl (inl same)) = absurd (not_itself f first more (ap (λ (x : FileId). x.number) same))
+  where
+    not_itself : (x : FileId) (n : ℕ) → n < x.number → x.number - 1 ≡ x.number → ⊥
+    not_itself x n lt e = omega (arith, lt, e)
+right_before before f fs behind above first more kind (inl (inr later)) = absurd (not_later f first more kind (above_among f fs (page_file f.owner (f.number - 1)) above later))
+  where
+    not_later : (x : FileId) (n : ℕ) → n < x.number → x.kind ≡ Page → IsLess x (page_file x.owner (x.number - 1)) → ⊥
+    not_later x n lt kind less = let r = ap rank kind in grind arith
+right_before before f fs behind above first more kind (inr (b, is, inl same)) = is ∙ ap Some (sym same)
+right_before before f fs behind above first more kind (inr (b, is, inr less)) = absurd (none_between f b first more kind less (subst (λ o. IsBehind o (f ∷ fs)) is behind).0)
+  where
+    none_between : (x y : FileId) (n : ℕ) → n < x.number → x.kind ≡ Page → IsLess (page_file x.owner (x.number - 1)) y → IsLess y x → ⊥
+    none_between x y n lt kind low high = let r = ap rank kind in grind arith
 
-  next_as : (before : Option FileId) (f : FileId) (fs : List FileId) → IsBehind before (f ∷ fs) → AllAbove f fs → IsThere contents f → ((q : FileId) → IsThere contents q → IsSeen before (f ∷ fs) q)
-      → (kind : Kind) → f.kind ≡ kind → IsNextAs addresses before kind f.owner f.number
-  next_as before f fs behind above there seen Journal is = tt
-  next_as before f fs behind above there seen Page is = λ k d lt same first.
-      let row = get_or addresses k d in
-      let here = subst (IsThere contents) (page_of f is ∙ ap (λ n. page_file n f.number) (sym same)) there in
-      let last = gapless k d lt f.number here (f.number - 1) (omega (arith, first)) (omega arith) in
-      right_before before f fs behind above row.first first is (seen (page_file f.owner (f.number - 1)) (subst (λ n. IsThere contents (page_file n (f.number - 1))) same last))
-  next_as before f fs behind above there seen Large is = tt
+still_seen : (before : Option FileId) (f : FileId) (fs : List FileId) → IsBehind before (f ∷ fs) → (q : FileId) → IsSeen before (f ∷ fs) q → IsSeen (Some f) fs q
+still_seen before f fs behind q (inl (inl same)) = inr (f, refl, inl same)
+still_seen before f fs behind q (inl (inr later)) = inl later
+still_seen before f fs behind q (inr (b, is, inl same)) = inr (f, refl, inr (subst (λ x. IsLess x f) (sym same) (subst (λ o. IsBehind o (f ∷ fs)) is behind).0))
+still_seen before f fs behind q (inr (b, is, inr less)) = inr (f, refl, inr (less_then q b f less (subst (λ o. IsBehind o (f ∷ fs)) is behind).0))
 
-  still_seen : (before : Option FileId) (f : FileId) (fs : List FileId) → IsBehind before (f ∷ fs) → (q : FileId) → IsSeen before (f ∷ fs) q → IsSeen (Some f) fs q
-  still_seen before f fs behind q (inl (inl same)) = inr (f, refl, inl same)
-  still_seen before f fs behind q (inl (inr later)) = inl later
-  still_seen before f fs behind q (inr (b, is, inl same)) = inr (f, refl, inr (subst (λ x. IsLess x f) (sym same) (subst (λ o. IsBehind o (f ∷ fs)) is behind).0))
-  still_seen before f fs behind q (inr (b, is, inr less)) = inr (f, refl, inr (less_then q b f less (subst (λ o. IsBehind o (f ∷ fs)) is behind).0))
+-- what a listing shows of a damage is so of the files
+module _ (contents : Contents) (d : Durable) (folds : FoldsTo contents d) where
+  -- where a page doesn't stand right behind the page before it, that isn't there
+  gap_there : (before : Option FileId) (f : FileId) (fs : List FileId) → IsBehind before (f ∷ fs) → AllAbove f fs → ((q : FileId) → IsThere contents q → IsSeen before (f ∷ fs) q) → (gap : IsGapAt d.addresses before f)
+      → contents (page_file gap.row.id (f.number - 1)) ≡ None
+  gap_there before f fs behind above seen gap = cases (contents (page_file gap.row.id (f.number - 1))) refl
+    where
+      own : f.owner ≡ gap.row.id
+      own = ap (λ (x : FileId). x.owner) gap.page
 
-  -- where the files are well formed the listing shows it
-  pub all_listed : (before : Option FileId) (fs : List FileId) → IsBehind before fs → Ascend fs → ((f : FileId) → IsAmong fs f → IsThere contents f) → ((q : FileId) → IsThere contents q → IsSeen before fs q) → AreListed addresses before fs
-  all_listed before [] behind up there seen = tt
-  all_listed before (f ∷ fs) behind up there seen = (
-    record { named = named f (there f (inl refl)); next = next_as before f fs behind up.0 (there f (inl refl)) seen f.kind refl },
-    all_listed (Some f) fs up.0 up.1 (λ g among. there g (inr among)) (λ q is. still_seen before f fs behind q (seen q is)),
-  )
+      cases : (o : Option (List ℕ)) → contents (page_file gap.row.id (f.number - 1)) ≡ o → contents (page_file gap.row.id (f.number - 1)) ≡ None
+      cases None is = is
+      cases (Some bytes) is = absurd (gap.gap (subst (λ n. before ≡ Some (page_file n (f.number - 1))) own
+          (right_before before f fs behind above gap.row.first gap.past (ap (λ (x : FileId). x.kind) gap.page)
+          (subst (λ n. IsSeen before (f ∷ fs) (page_file n (f.number - 1))) (sym own) (seen (page_file gap.row.id (f.number - 1)) (bytes, is))))))
+
+  file_broken : (before : Option FileId) (f : FileId) (fs : List FileId) → IsBehind before (f ∷ fs) → AllAbove f fs → IsThere contents f → ((q : FileId) → IsThere contents q → IsSeen before (f ∷ fs) q)
+      → (rule : Rule) → IsUnlisted d.addresses before f rule → IsBrokenFile contents f rule
+  file_broken before f fs behind above there seen rule (inl named) = inl (named.0, record { state = d; folds = folds; there = there; misnamed = named.1 })
+  file_broken before f fs behind above there seen rule (inr gap) = inr (inl (
+    gap.0,
+    record {
+      state = d;
+      folds = folds;
+      there = there;
+      row = gap.1.row;
+      known = gap.1.known;
+      page = gap.1.page;
+      past = gap.1.past;
+      gap = gap_there before f fs behind above seen gap.1;
+    },
+  ))
+
+  all_broken : (before : Option FileId) (fs : List FileId) → IsBehind before fs → Ascend fs → ((f : FileId) → IsAmong fs f → IsThere contents f) → ((q : FileId) → IsThere contents q → IsSeen before fs q)
+      → (damage : Damage) → HasUnlisted d.addresses before fs damage → (damage.at ≡ 0) × IsBrokenFile contents damage.file damage.rule
+  all_broken before [] behind up there seen damage unlisted = absurd unlisted
+  all_broken before (f ∷ fs) behind up there seen damage (inl named) =
+      (named.offset, subst (λ x. IsBrokenFile contents x damage.rule) (sym named.of_file) (file_broken before f fs behind up.0 (there f (inl refl)) seen damage.rule named.breaks))
+  all_broken before (f ∷ fs) behind up there seen damage (inr more) =
+      all_broken (Some f) fs up.0 up.1 (λ g among. there g (inr among)) (λ q is. still_seen before f fs behind q (seen q is)) damage more
 
 module _ (files : FinMap file_cmp FileState) (ids : List FileId) (is : ids ≡ keys files) where
   among_there : (f : FileId) → IsAmong ids f → IsThere (as_read files) f
@@ -192,9 +217,10 @@ module _ (files : FinMap file_cmp FileState) (ids : List FileId) (is : ids ≡ k
       read_some None bytes e = cc
       read_some (Some s) bytes e = refl
 
-  -- the listing of well formed files
-  pub listing_shows : (addresses : List AddressRow) → ((file : FileId) → IsThere (as_read files) file → IsNamed addresses file) → All (IsGapless (as_read files)) addresses → AreListed addresses None ids
-  listing_shows addresses named gapless = all_listed addresses (as_read files) named gapless None ids tt (listing_ascends files ids is) among_there (λ q there. inl (there_among q there))
+  -- the damage that a listing shows
+  pub listing_names : (d : Durable) → FoldsTo (as_read files) d → (damage : Damage) → HasUnlisted d.addresses None ids damage → IsBrokenThere (as_read files) damage
+  listing_names d folds damage unlisted =
+      inr (inr (all_broken (as_read files) d folds None ids tt (listing_ascends files ids is) among_there (λ q there. inl (there_among q there)) damage unlisted))
 
 -- what a listing shows of each file
 listed_named : (addresses : List AddressRow) (before : Option FileId) (fs : List FileId) (q : FileId) → AreListed addresses before fs → IsAmong fs q → IsNamed addresses q

@@ -7,22 +7,23 @@ use Rattle.std.proofs.lemmas.List.{ext_get_or}
 use Rattle.pg_disk.specs.declared.fault.Fault.{Fault}
 use Rattle.pg_disk.specs.declared.file_id.FileId.{FileId}
 use Rattle.pg_disk.specs.declared.file_id.Kind.TheVariants.{Journal as OfJournal, Large}
-use Rattle.pg_disk.specs.Account.{FileState, Account, account, IsHonest, IsQuiet}
+use Rattle.pg_disk.specs.Account.{FileState, Account, account, IsHonest, IsQuiet, IsQuietAt, AllQuiet}
 use Rattle.pg_disk.specs.Files.{file_cmp, Files}
-use Rattle.pg_disk.specs.Image.{IsImage, IsIn, IsLeft, IsLeftAt}
+use Rattle.pg_disk.specs.Image.{IsImage, IsIn, IsLeft, IsLeftAt, MayBeRemoved}
 use Rattle.pg_gate.specs.Gated.{Batches, HasBatches, HasNone}
 use Rattle.pg_gate.proofs.Sealing.{batches_from}
 use Rattle.pg_fold.specs.declared.durable.Durable.{Durable}
 use Rattle.pg_fold.specs.declared.rows.AddressRow.{AddressRow}
 use Rattle.pg_journal.specs.declared.journal.Journal.{Journal}
-use Rattle.pg_journal.specs.Generations.{Contents, as_left, as_read, bytes_of, first_generation, JournalOf}
+use Rattle.pg_journal.specs.Generations.{first_generation, JournalOf}
+use Rattle.pg_disk.specs.Views.{Contents, as_left, as_read, bytes_of}
 use Rattle.pg_journal.specs.Looks.{KeepsGeneration, LeavesJournal, ReadsGenerations}
-use Rattle.pg_journal.specs.Stands.{IsQuietAt, Settles, Stands, StaysOrSettles, name_of}
+use Rattle.pg_journal.specs.Stands.{ComesToRest, Stands, StaysOrComesToRest, name_of}
 use Rattle.pg_journal.proofs.Order.{generation_or_not, same_or_not}
 use Rattle.pg_journal.proofs.Saying.{stands_reads, stands_there}
-use Rattle.pg_recover.specs.declared.opening.Parts.{Parts}
+use Rattle.pg_recover.specs.declared.recovering.Parts.{Parts}
 use Rattle.pg_recover.specs.Denotation.{FoldsTo, raised}
-use Rattle.pg_recover.specs.Recovered.{AllQuiet, Owns}
+use Rattle.pg_recover.specs.Recovered.{Owns}
 use Rattle.pg_recover.specs.Removing.{HasNoOther, LeavesOthersGone}
 use Rattle.pg_recover.specs.Said.{IsWhole, KeepsWhole}
 use Rattle.pg_recover.specs.WellFormed.{IsGapless, IsNamed, IsThere, WellFormed, page_file}
@@ -118,8 +119,8 @@ whole_kept (Some s) left quiet keeps whole = whole_has whole.0 left (keeps quiet
 pub finding_keeps : (old : Option Account) → AllQuiet (account old).files → (c : Files) (b : List ℕ) → LeavesJournal old c b → KeepsWhole (as_read (account old).files) (as_left c)
 finding_keeps old quiet c b left = record {
   others = λ file kind. left_as_read (get (account old).files file) (get c file) (quiet file) (left.others file kind);
-  whole = λ file kind whole. whole_kept (get (account old).files file) (get c file) (quiet file) (left.generations file kind) whole;
-  made = λ file kind none. left.made file kind (none_there (get (account old).files file) none);
+  whole = λ file kind whole. whole_kept (get (account old).files file) (get c file) (quiet file) (left.left.generations file kind) whole;
+  made = λ file kind none. left.left.made file kind (none_there (get (account old).files file) none);
 }
 
 -- the journal's file is there, and whole
@@ -130,28 +131,28 @@ own_there : (journal : Journal) (batches : List (List ℕ)) (files : FinMap file
 own_there journal batches files stands none = let there = stands_there journal batches files stands in not_there there.0.bytes (sym (ap bytes_of there.1) ∙ none)
 
 -- once it is found
-whole_settles : (s t : Option FileState) → Settles s t → IsWhole (bytes_of t)
+whole_settles : (s t : Option FileState) → ComesToRest s t → IsWhole (bytes_of t)
 whole_settles None t settles = subst (λ o. IsWhole (bytes_of o)) (sym settles) tt
 whole_settles (Some s) None settles = absurd settles.1
 whole_settles (Some s) (Some t) settles = ([], batches_from t.bytes [] settles.1.front.closed settles.1.front.shut settles.1.front.holds)
 
-whole_stays : (s t : Option FileState) → StaysOrSettles s t → IsWhole (bytes_of s) → IsWhole (bytes_of t)
+whole_stays : (s t : Option FileState) → StaysOrComesToRest s t → IsWhole (bytes_of s) → IsWhole (bytes_of t)
 whole_stays s t (inl same) whole = subst (λ o. IsWhole (bytes_of o)) (sym same) whole
 whole_stays s t (inr settles) whole = whole_settles s t settles
 
 pub found_keeps : (old mid : Account) → ReadsGenerations old mid → (journal : Journal) (batches : List (List ℕ)) → Stands journal batches mid.files
-    → ((file : FileId) → file.kind ≡ OfJournal → file ≢ name_of journal → StaysOrSettles (get old.files file) (get mid.files file)) → KeepsWhole (as_read old.files) (as_read mid.files)
+    → ((file : FileId) → file.kind ≡ OfJournal → file ≢ name_of journal → StaysOrComesToRest (get old.files file) (get mid.files file)) → KeepsWhole (as_read old.files) (as_read mid.files)
 found_keeps old mid reads journal batches stands others = record {
   others = λ file kind. ap bytes_of (reads.others file kind);
   whole = λ file kind whole. ⊎_elim (λ own. subst (λ f. IsWhole (bytes_of (get mid.files f))) (sym own) (whole_own journal batches mid.files stands))
       (λ other. whole_stays (get old.files file) (get mid.files file) (others file kind other) whole) (same_or_not file (name_of journal));
-  made = λ file kind none. ⊎_elim (λ gone. inl (ap bytes_of gone)) (λ first. inr first) (reads.made file kind (none_there (get old.files file) none));
+  made = λ file kind none. ⊎_elim (λ gone. inl (ap bytes_of gone)) (λ first. inr first) (reads.change.made file kind (none_there (get old.files file) none));
 }
 
 -- while other generations are removed
-left_or_none : (s : Option FileState) (left : Option (List ℕ)) → IsQuietAt s → IsLeftAt s left ⊎ (left ≡ None) → (left ≡ bytes_of s) ⊎ (left ≡ None)
-left_or_none s left quiet (inl is) = inl (left_as_read s left quiet is)
-left_or_none s left quiet (inr gone) = inr gone
+left_or_none : (s : Option FileState) (left : Option (List ℕ)) → IsQuietAt s → MayBeRemoved s left → (left ≡ bytes_of s) ⊎ (left ≡ None)
+left_or_none s left quiet (inl gone) = inr gone
+left_or_none s left quiet (inr is) = inl (left_as_read s left quiet is)
 
 same_or_gone : (o left : Option (List ℕ)) → (left ≡ o) ⊎ (left ≡ None) → IsWhole o → IsWhole left
 same_or_gone o left (inl same) whole = subst IsWhole (sym same) whole
@@ -163,9 +164,9 @@ none_still o left (inr gone) none = gone
 
 pub gone_keeps : (keep : FileId) (old : Option Account) → AllQuiet (account old).files → (c : Files) (b : List ℕ) → LeavesOthersGone keep old c b → KeepsWhole (as_read (account old).files) (as_left c)
 gone_keeps keep old quiet c b left =
-    let each : (file : FileId) → (get c file ≡ bytes_of (get (account old).files file)) ⊎ (get c file ≡ None) = λ file. left_or_none (get (account old).files file) (get c file) (quiet file) (left.gone file) in
+    let each : (file : FileId) → (get c file ≡ bytes_of (get (account old).files file)) ⊎ (get c file ≡ None) = λ file. left_or_none (get (account old).files file) (get c file) (quiet file) (left.left file) in
     record {
-      others = λ file kind. left_as_read (get (account old).files file) (get c file) (quiet file) (left.kept file (λ other. kind other.0));
+      others = λ file kind. left_as_read (get (account old).files file) (get c file) (quiet file) (left.others file (λ other. kind other.0));
       whole = λ file kind whole. same_or_gone (bytes_of (get (account old).files file)) (get c file) (each file) whole;
       made = λ file kind none. inl (none_still (bytes_of (get (account old).files file)) (get c file) (each file) none);
     }

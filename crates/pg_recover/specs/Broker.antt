@@ -4,6 +4,7 @@ use Rattle.std.specs.Option.{option_map_or}
 use Rattle.std.specs.Str.{bytes_eq}
 use Rattle.pg_msg.specs.declared.command.Command.{Command}
 use Rattle.pg_msg.specs.declared.command.Command.TheVariants as command
+use Rattle.pg_msg.specs.declared.limits.TheConstants.{MOST_ADDRESSES, MOST_QUEUES}
 use Rattle.pg_msg.specs.declared.message.Body.TheVariants.{Plain}
 use Rattle.pg_msg.specs.declared.message.Message.{Message}
 use Rattle.pg_msg.specs.declared.message.MessageId.{MessageId}
@@ -22,14 +23,14 @@ pub record Address : Type 0 where
   pub dup : ℕ
   pub held : List Message
 
--- a live queue: its number, its name, the place of its address (from 0), and its messages in order
+-- a live queue: its id, its name, the place of its address (from 0), and its messages in order
 pub record Queue : Type 0 where
-  pub number : ℕ
+  pub id : ℕ
   pub name : List ℕ
   pub address : ℕ
   pub messages : List Message
 
--- what outlives a run: the epoch, the number of the next queue, and the addresses and the queues in the order of their making
+-- what outlives a run: the epoch, the id of the next queue, and the addresses and the queues in the order of their making
 pub record Durable : Type 0 where
   pub epoch : ℕ
   pub next : ℕ
@@ -62,34 +63,27 @@ place_of addresses name = position (λ a. bytes_eq name a.name) addresses
 abbrev pub queue_named : List Queue → List ℕ → Option Queue
 queue_named queues name = find (λ q. bytes_eq name q.name) queues
 
--- the numbers of the queues of an address, ascending
+-- the ids of the queues of an address, ascending
 abbrev pub routed : ℕ → List Queue → List ℕ
 routed place [] = []
-routed place (q ∷ queues) = if q.address == place then q.number ∷ routed place queues else routed place queues
+routed place (q ∷ queues) = if q.address == place then q.id ∷ routed place queues else routed place queues
 
 -- the bytes of the messages that are held for an address
 abbrev pub resident : Address → ℕ
 resident a = sum_by weight_of a.held
 
--- the greatest numbers of addresses, and of live queues of one
-abbrev pub most_addresses : ℕ
-most_addresses = 1000
-
-abbrev pub most_queues : ℕ
-most_queues = 1000
-
 -- a further address behind the others
 abbrev pub with_address : Broker → Address → Broker
 with_address s a = record { durable = record { epoch = s.durable.epoch; next = s.durable.next; addresses = s.durable.addresses ++ (a ∷ []); queues = s.durable.queues }; drawn = s.drawn; ids = s.ids }
 
--- a further queue behind the others, with the next number and no messages
+-- a further queue behind the others, with the next id and no messages
 abbrev pub with_queue : Broker → List ℕ → ℕ → Broker
 with_queue s name place = record {
   durable = record {
     epoch = s.durable.epoch;
     next = s.durable.next + 1;
     addresses = s.durable.addresses;
-    queues = s.durable.queues ++ (record { number = s.durable.next; name = name; address = place; messages = [] } ∷ []);
+    queues = s.durable.queues ++ (record { id = s.durable.next; name = name; address = place; messages = [] } ∷ []);
   };
   drawn = s.drawn;
   ids = s.ids;
@@ -132,7 +126,7 @@ next_id s = record { epoch = s.durable.epoch; number = s.drawn + 1 }
 -- A send that has queues to go to is refused where no number is left, and where the address has no room in memory for it.
 abbrev pub refusal_of_routed : Broker → Address → List ℕ → Option Refusal
 refusal_of_routed s a [] = None
-refusal_of_routed s a (number ∷ numbers) = if nat_le s.ids s.drawn then Some refusal.Line else (if nat_le a.max (resident a) then Some refusal.Line else None)
+refusal_of_routed s a (queue ∷ queues) = if nat_le s.ids s.drawn then Some refusal.Line else (if nat_le a.max (resident a) then Some refusal.Line else None)
 
 abbrev pub refusal_at : Broker → ℕ → Option Address → Option Refusal
 refusal_at s place None = None
@@ -141,18 +135,38 @@ refusal_at s place (Some a) = refusal_of_routed s a (routed place s.durable.queu
 -- The first cause of a refusal that holds. A command that isn't built is refused as an unreadable line is.
 abbrev pub refusal_of : Broker → Command → Option Refusal
 refusal_of s (command.Address name max page ahead dup) =
-    option_map_or (λ place. Some refusal.Name) (place_of s.durable.addresses name) (if nat_le most_addresses (length s.durable.addresses) then Some refusal.Line else None)
+    option_map_or (λ place. Some refusal.Name) (place_of s.durable.addresses name) (if nat_le MOST_ADDRESSES (length s.durable.addresses) then Some refusal.Line else None)
 refusal_of s (command.Queue name address None) =
     option_map_or (λ q. Some refusal.Name) (queue_named s.durable.queues name)
-    (option_map_or (λ place. if nat_le most_queues (length (routed place s.durable.queues)) then Some refusal.Line else None) (place_of s.durable.addresses address) (Some refusal.Address))
+    (option_map_or (λ place. if nat_le MOST_QUEUES (length (routed place s.durable.queues)) then Some refusal.Line else None) (place_of s.durable.addresses address) (Some refusal.Address))
 refusal_of s (command.Send address None None [] body) = option_map_or (λ place. refusal_at s place (slice_get s.durable.addresses place)) (place_of s.durable.addresses address) (Some refusal.Address)
 refusal_of s (command.Count queue) = option_map_or (λ q. None) (queue_named s.durable.queues queue) (Some refusal.Queue)
-refusal_of s _ = Some refusal.Line
+refusal_of s (command.Queue name address (Some filter)) = Some refusal.Line
+refusal_of s (command.Send address None None (property ∷ properties) body) = Some refusal.Line
+refusal_of s (command.Send address None (Some id) properties body) = Some refusal.Line
+refusal_of s (command.Send address (Some tx) id properties body) = Some refusal.Line
+refusal_of s (command.DropQueue name) = Some refusal.Line
+refusal_of s (command.Begin tx) = Some refusal.Line
+refusal_of s (command.Commit tx) = Some refusal.Line
+refusal_of s (command.Rollback tx) = Some refusal.Line
+refusal_of s (command.Consumer name queue) = Some refusal.Line
+refusal_of s (command.Receive consumer) = Some refusal.Line
+refusal_of s (command.Ack consumer message tx) = Some refusal.Line
+refusal_of s (command.Cancel consumer message) = Some refusal.Line
+refusal_of s (command.Close consumer) = Some refusal.Line
+refusal_of s (command.Large address name id properties) = Some refusal.Line
+refusal_of s (command.Part name bytes) = Some refusal.Line
+refusal_of s (command.End name) = Some refusal.Line
+refusal_of s (command.PartOf consumer message start count) = Some refusal.Line
+refusal_of s (command.Cleanup address) = Some refusal.Line
+refusal_of s (command.Ahead queue) = Some refusal.Line
+refusal_of s command.Checkpoint = Some refusal.Line
+refusal_of s (command.Stat address) = Some refusal.Line
 
 -- a message that isn't refused goes to the queues of its address, if there are any
 abbrev pub Sends : Broker → ℕ → List ℕ → List ℕ → Reply → Broker → Type 0
 Sends s place body [] reply t = (reply ≡ answer.Unrouted) × (t ≡ s)
-Sends s place body (number ∷ numbers) reply t = (reply ≡ answer.Sent (next_id s)) × (t ≡ with_message s place (plain (next_id s) body))
+Sends s place body (queue ∷ queues) reply t = (reply ≡ answer.Sent (next_id s)) × (t ≡ with_message s place (plain (next_id s) body))
 
 -- what a command that isn't refused does
 abbrev pub Does : Broker → Command → Reply → Broker → Type 0
@@ -161,7 +175,27 @@ Does s (command.Address name max page ahead dup) reply t =
 Does s (command.Queue name address None) reply t = MatchOption (place_of s.durable.addresses address) ⊥ (λ place. (reply ≡ answer.Done) × (t ≡ with_queue s name place))
 Does s (command.Send address None None [] body) reply t = MatchOption (place_of s.durable.addresses address) ⊥ (λ place. Sends s place body (routed place s.durable.queues) reply t)
 Does s (command.Count queue) reply t = MatchOption (queue_named s.durable.queues queue) ⊥ (λ q. (reply ≡ answer.Count (length q.messages)) × (t ≡ s))
-Does s _ reply t = ⊥
+Does s (command.Queue name address (Some filter)) reply t = ⊥
+Does s (command.Send address None None (property ∷ properties) body) reply t = ⊥
+Does s (command.Send address None (Some id) properties body) reply t = ⊥
+Does s (command.Send address (Some tx) id properties body) reply t = ⊥
+Does s (command.DropQueue name) reply t = ⊥
+Does s (command.Begin tx) reply t = ⊥
+Does s (command.Commit tx) reply t = ⊥
+Does s (command.Rollback tx) reply t = ⊥
+Does s (command.Consumer name queue) reply t = ⊥
+Does s (command.Receive consumer) reply t = ⊥
+Does s (command.Ack consumer message tx) reply t = ⊥
+Does s (command.Cancel consumer message) reply t = ⊥
+Does s (command.Close consumer) reply t = ⊥
+Does s (command.Large address name id properties) reply t = ⊥
+Does s (command.Part name bytes) reply t = ⊥
+Does s (command.End name) reply t = ⊥
+Does s (command.PartOf consumer message start count) reply t = ⊥
+Does s (command.Cleanup address) reply t = ⊥
+Does s (command.Ahead queue) reply t = ⊥
+Does s command.Checkpoint reply t = ⊥
+Does s (command.Stat address) reply t = ⊥
 
 -- after a refusal all is as before
 abbrev pub Refuses : Broker → Refusal → Reply → Broker → Type 0

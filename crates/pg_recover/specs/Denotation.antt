@@ -10,7 +10,8 @@ use Rattle.pg_fold.specs.declared.rows.JournaledRow.{JournaledRow}
 use Rattle.pg_fold.specs.declared.rows.QueueRow.{QueueRow}
 use Rattle.pg_fold.specs.Fold.{fold, fresh}
 use Rattle.pg_fold.specs.Rows.{has_number}
-use Rattle.pg_journal.specs.Generations.{Contents, JournalOf}
+use Rattle.pg_journal.specs.Generations.{JournalOf}
+use Rattle.pg_disk.specs.Views.{Contents}
 use Rattle.pg_recover.specs.Broker.{Address, Queue}
 use Rattle.pg_recover.specs.Broker.{Durable as BrokerDurable}
 
@@ -27,15 +28,29 @@ abbrev pub weight_at : ℕ → List JournaledRow → ℕ
 weight_at address rows = sum_by weight_of (held_at address rows)
 
 abbrev pub address_of : List JournaledRow → AddressRow → Address
-address_of rows row = record { name = row.name; max = row.max; page = row.page; ahead = row.ahead; dup = row.dup; held = held_at row.id rows }
+address_of rows row =
+    record {
+      name = row.name;
+      max = row.max;
+      page = row.page;
+      ahead = row.ahead;
+      dup = row.dup;
+      held = held_at row.id rows;
+    }
 
 -- the id of an address is its place, from 1
 abbrev pub queue_of : List JournaledRow → QueueRow → Queue
-queue_of rows row = record { number = row.id; name = row.name; address = row.address - 1; messages = held_by row.id rows }
+queue_of rows row =
+    record { id = row.id; name = row.name; address = row.address - 1; messages = held_by row.id rows }
 
 -- the durable part that a state stands for
 abbrev pub durable_part : Durable → BrokerDurable
-durable_part d = record { epoch = d.epoch; next = d.next; addresses = map (address_of d.journaled) d.addresses; queues = map (queue_of d.journaled) d.queues }
+durable_part d = record {
+  epoch = d.epoch;
+  next = d.next;
+  addresses = map (address_of d.journaled) d.addresses;
+  queues = map (queue_of d.journaled) d.queues;
+}
 
 -- the same state in the next epoch
 abbrev pub raised : Durable → Durable

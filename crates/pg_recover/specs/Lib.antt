@@ -1,4 +1,5 @@
 pub mod Broker
+pub mod Damaging
 pub mod Denotation
 pub mod Folding
 pub mod Listing

@@ -1,15 +1,8 @@
--- Payloads at places of the journal's file, and the pieces that cover them.
+-- Payloads within a piece of a file that was read at once.
 use Rattle.std.specs.Prelude.{◌≤◌, ◌+◌, ◌-◌, ℕ, List, map, take, drop, All}
 use Rattle.pg_gate.specs.declared.spans.Span.{Span}
 
--- the bytes at a place
-abbrev pub payload_at : List ℕ → Span → List ℕ
-payload_at bytes span = take span.length (drop span.at bytes)
-
-abbrev pub payloads_at : List ℕ → List Span → List (List ℕ)
-payloads_at bytes spans = map (payload_at bytes) spans
-
--- the same, where the bytes begin at this offset
+-- the bytes at a place of a file, in a piece of it that begins at this offset
 abbrev pub payload_from : ℕ → List ℕ → Span → List ℕ
 payload_from from bytes span = take span.length (drop (span.at - from) bytes)
 
@@ -24,10 +17,3 @@ pub record IsCovered (cover span : Span) : Type 0 where
 -- so do all of these
 abbrev pub Covers : Span → List Span → Type 0
 Covers cover spans = All (IsCovered cover) spans
-
--- the place ends within so many bytes
-abbrev pub IsInside : ℕ → Span → Type 0
-IsInside size span = span.at + span.length ≤ size
-
-abbrev pub AreInside : ℕ → List Span → Type 0
-AreInside size spans = All (IsInside size) spans

@@ -6,8 +6,10 @@ use Rattle.pg_disk.specs.declared.fault.Fault.TheVariants.{Failed, Damaged, Spen
 use Rattle.pg_disk.specs.declared.file_id.FileId.{FileId}
 use Rattle.pg_disk.specs.declared.file_id.Kind.TheVariants.{Journal as OfJournal}
 use Rattle.pg_disk.specs.Account.{FileState, Account, account, IsHonest}
+use Rattle.pg_disk.specs.Meanings.{Either, LeavesMeaning, Meaning}
 use Rattle.pg_disk.specs.Files.{file_cmp, Files}
-use Rattle.pg_disk.specs.Calls.{Changes}
+use Rattle.pg_disk.specs.Calls.{Changes, ChangesWhere, ReadsSome}
+use Rattle.pg_disk.specs.Image.{AnyFile}
 use Rattle.pg_gate.specs.Gated.{opened, HasBatches}
 use Rattle.pg_gate.specs.Spans.{IsMendable}
 use Rattle.pg_records.specs.declared.entry.Entry.{Entry}
@@ -16,8 +18,9 @@ use Rattle.pg_fold.specs.declared.durable.Durable.{Durable}
 use Rattle.pg_fold.specs.Fold.{fold, fresh}
 use Rattle.pg_fold.specs.Sound.{IsSound}
 use Rattle.pg_journal.specs.declared.journal.Journal.{Journal}
-use Rattle.pg_journal.specs.Generations.{Contents, as_read, as_left, bytes_of, first_generation, HasNoneThere}
-use Rattle.pg_journal.specs.Stands.{IsQuietAt, Stands, name_of}
+use Rattle.pg_journal.specs.Generations.{first_generation, HasNoneThere}
+use Rattle.pg_disk.specs.Views.{Contents, as_read, as_left, bytes_of}
+use Rattle.pg_journal.specs.Stands.{Stands, name_of}
 use Rattle.pg_recover.specs.Denotation.{FoldsTo, raised}
 use Rattle.pg_recover.specs.WellFormed.{WellFormed}
 
@@ -27,11 +30,8 @@ pub record IsBegun (durable : Durable) : Type 0 where
   pub sound : IsSound before
   pub is : durable ≡ raised before
 
--- nothing of any file is pending
-abbrev pub AllQuiet : FinMap file_cmp FileState → Type 0
-AllQuiet files = (file : FileId) → IsQuietAt (get files file)
-
--- Among these files the journal stands for batches that spell entries which give the state, and no other generation is there.
+-- Among these files the journal stands for batches that spell entries which give the state, and no other generation is
+-- there.
 pub record Owns (journal : Journal) (durable : Durable) (files : FinMap file_cmp FileState) : Type 0 where
   pub batches : List (List ℕ)
   pub entries : List Entry
@@ -40,23 +40,29 @@ pub record Owns (journal : Journal) (durable : Durable) (files : FinMap file_cmp
   pub folded : fold fresh entries ≡ Some durable
   pub alone : (file : FileId) → file.kind ≡ OfJournal → file ≢ name_of journal → get files file ≡ None
 
--- Nothing was told, and where that is asked, the state that the journal gives is that from before, or that in the next epoch, and files that were well
--- formed are.
-pub record LeavesOpened (asked : Type 0) (tells : Option Account) (image : Files) (told : List ℕ) : Type 0 where
-  pub honest : IsHonest tells
-  pub nothing : told ≡ (account tells).told
-  pub denotes : asked → (d : Durable) → FoldsTo (as_read (account tells).files) d → FoldsTo (as_left image) d ⊎ FoldsTo (as_left image) (raised d)
-  pub well : asked → WellFormed (as_read (account tells).files) → WellFormed (as_left image)
+-- the journal gives what this makes of the state that it gave, and files that were well formed are
+pub record Gives (change : Durable → Durable) (tells : Option Account) (image : Files) : Type 0 where
+  pub folds : (d : Durable) → FoldsTo (as_read (account tells).files) d → FoldsTo (as_left image) (change d)
+  pub well : WellFormed (as_read (account tells).files) → WellFormed (as_left image)
 
--- nothing is pending at the beginning
-abbrev pub BeganQuiet : Option Account → Type 0
-BeganQuiet tells = AllQuiet (account tells).files
+-- the state from before, and that in the next epoch
+abbrev pub GivesSame : Meaning
+GivesSame = Gives (λ d. d)
 
--- Bytes were read, nothing was told, and each file that is no generation of the journal has the bytes that it had.
-pub record OpensFiles (old new : Account) : Type 0 where
-  pub told : new.told ≡ old.told
-  pub taken : old.taken ≤ new.taken
-  pub others : (file : FileId) → file.kind ≢ OfJournal → bytes_of (get new.files file) ≡ bytes_of (get old.files file)
+abbrev pub GivesNext : Meaning
+GivesNext = Gives raised
+
+-- What a crash within an opening leaves: the one or the other, with nothing told.
+abbrev pub LeavesOpened : Option Account → Files → List ℕ → Type 0
+LeavesOpened = LeavesMeaning (Either GivesSame GivesNext)
+
+-- each file that is no generation of the journal has the bytes that it had
+abbrev pub KeepsOthers : FinMap file_cmp FileState → FinMap file_cmp FileState → Type 0
+KeepsOthers files now = (file : FileId) → file.kind ≢ OfJournal → bytes_of (get now file) ≡ bytes_of (get files file)
+
+-- that is so, bytes may have been read, and nothing was told
+abbrev pub OpensFiles : Account → Account → Type 0
+OpensFiles = ChangesWhere AnyFile ReadsSome KeepsOthers
 
 -- The generation was empty or had the one byte 1, so that it had no batch. It is there still, and has none.
 abbrev pub IsMended : Option (List ℕ) → Option (List ℕ) → Type 0
@@ -73,12 +79,15 @@ pub record IsLaid (old now : Contents) (file : FileId) : Type 0 where
 abbrev pub IsKeptGeneration : Contents → Contents → FileId → Type 0
 IsKeptGeneration old now file = (now file ≡ old file) ⊎ (IsMended (old file) (now file) ⊎ IsLaid old now file)
 
--- Nothing was told, and each file that is no generation of the journal has the bytes that it had. So has each generation, but for one without a batch that
--- was mended, and for the first one where it was laid. None that was there is gone.
-pub record KeepsFiles (old new : Account) : Type 0 where
-  pub told : new.told ≡ old.told
-  pub others : (file : FileId) → file.kind ≢ OfJournal → bytes_of (get new.files file) ≡ bytes_of (get old.files file)
-  pub generations : (file : FileId) → file.kind ≡ OfJournal → IsKeptGeneration (as_read old.files) (as_read new.files) file
+-- Each file that is no generation of the journal has the bytes that it had. So has each generation, but for one without
+-- a batch that was mended, and for the first one where it was laid. None that was there is gone.
+pub record KeepsBytes (files now : FinMap file_cmp FileState) : Type 0 where
+  pub others : KeepsOthers files now
+  pub generations : (file : FileId) → file.kind ≡ OfJournal → IsKeptGeneration (as_read files) (as_read now) file
+
+-- that is so, bytes may have been read, and nothing was told
+abbrev pub KeepsFiles : Account → Account → Type 0
+KeepsFiles = ChangesWhere AnyFile ReadsSome KeepsBytes
 
 -- so it is where there was damage or a limit was met
 abbrev pub AreKept : Option Account → Option Account → Fault → Type 0

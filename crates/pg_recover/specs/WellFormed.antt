@@ -7,7 +7,7 @@ use Rattle.pg_gate.specs.Gated.{Batches}
 use Rattle.pg_fold.specs.declared.durable.Durable.{Durable}
 use Rattle.pg_fold.specs.declared.rows.AddressRow.{AddressRow}
 use Rattle.pg_fold.specs.Rows.{has_address}
-use Rattle.pg_journal.specs.Generations.{Contents}
+use Rattle.pg_disk.specs.Views.{Contents}
 use Rattle.pg_recover.specs.Denotation.{FoldsTo, weight_at}
 
 -- the file is there
@@ -34,7 +34,8 @@ IsNamed addresses file = IsNamedAs addresses file.kind file.owner file.number
 -- the pages of the address from its first one on are numbered without a gap, beginning with the first
 abbrev pub IsGapless : Contents → AddressRow → Type 0
 IsGapless contents row =
-    (number : ℕ) → IsThere contents (page_file row.id number) → (other : ℕ) → row.first ≤ other → other ≤ number → IsThere contents (page_file row.id other)
+    (number : ℕ) → IsThere contents (page_file row.id number)
+    → (other : ℕ) → row.first ≤ other → other ≤ number → IsThere contents (page_file row.id other)
 
 -- the messages of each address have room in memory, where a last one may pass the limit
 abbrev pub AreRoomy : Durable → Type 0
@@ -45,7 +46,8 @@ pub record WellFormed (contents : Contents) : Type 0 where
   pub state : Durable
   pub folds : FoldsTo contents state
   -- no batch is cut
-  pub whole : (file : FileId) → file.kind ≢ Large → (bytes : List ℕ) → contents file ≡ Some bytes → (batches : List (List ℕ)) × Batches bytes batches
+  pub whole : (file : FileId) → file.kind ≢ Large → (bytes : List ℕ) → contents file ≡ Some bytes
+      → (batches : List (List ℕ)) × Batches bytes batches
   pub named : (file : FileId) → IsThere contents file → IsNamed state.addresses file
   pub gapless : All (IsGapless contents) state.addresses
   pub roomy : AreRoomy state

@@ -1,21 +1,21 @@
 // The next epoch is begun.
 ghost use Rattle.std.specs.Prelude.{◌≡◌, ◌<◌, ◌≤◌, ◌+◌, ◌^◌, None, IfOk, IfErr, OnOk};
-ghost use Rattle.pg_disk.specs.Account.{account, IsHonest};
-ghost use Rattle.pg_disk.specs.Calls.{Changes};
+ghost use Rattle.pg_disk.specs.Sites.{OnBoth, OnFiles, Steps};
+ghost use Rattle.pg_disk.specs.Account.{AllQuiet};
 ghost use Rattle.pg_disk.specs.Counts.{CountsFault};
 ghost use Rattle.pg_disk.specs.Moments.{Within};
-ghost use Rattle.pg_journal.specs.Generations.{as_read};
+ghost use Rattle.pg_disk.specs.Views.{as_read};
 ghost use Rattle.pg_journal.specs.Stands.{counted};
 ghost use Rattle.pg_recover.specs.Denotation.{raised};
 ghost use Rattle.pg_fold.specs.Sound.{IsSound};
 ghost use Rattle.pg_recover.specs.Listing.{AreListed};
 ghost use Rattle.pg_recover.specs.Raising.{IsFailedOrMemory, IsReady, IsUnfit, LeavesRaised};
-ghost use Rattle.pg_recover.specs.Recovered.{AllQuiet, OpensFiles, Owns};
+ghost use Rattle.pg_recover.specs.Recovered.{OpensFiles, Owns};
 ghost use Rattle.pg_recover.specs.Said.{KeepsWhole};
 ghost use Rattle.pg_recover.specs.WellFormed.{AreRoomy};
 
 use crate::listing::listing_damage;
-use crate::opening::Parts;
+use crate::recovering::Parts;
 use crate::removing::remove_others;
 use crate::room::is_roomy;
 use pg_disk::{Damage, Disk, Fault, FileId, Rule};
@@ -68,16 +68,15 @@ pub(crate) fn begin_epoch<D: Disk>(
     journal: Journal,
     mut durable: Durable,
 ) -> Result<Parts, Fault>
-    requires ready { IsHonest (D.tells disk.old) → IsReady journal durable files.now (account (D.tells disk.old)).files }
+    requires ready { OnFiles D.Disk disk.old (IsReady journal durable files.now) }
     requires next { durable.epoch + 1 < 2 ^ 32 }
     requires room { counted journal + 14 ≤ 2 ^ 62 }
     ensures raised { IfOk result (λ parts. parts.durable ≡ raised durable) }
-    ensures owned { IfOk result (λ parts. IsHonest (D.tells disk.old) →
-        Owns parts.journal parts.durable (account (D.tells disk.new)).files × AllQuiet (account (D.tells disk.new)).files) }
-    ensures keeps { OnOk result (IsHonest (D.tells disk.old) →
-        KeepsWhole (as_read (account (D.tells disk.old)).files) (as_read (account (D.tells disk.new)).files)) }
-    ensures stays { Changes (D.tells disk.old) (D.tells disk.new) OpensFiles }
-    ensures any_moment { Within D.moment D.left_since disk.old disk.new (LeavesRaised journal durable (D.tells disk.old)) }
+    ensures owned { IfOk result (λ parts. OnBoth D.Disk disk.old disk.new (λ _ now.
+        Owns parts.journal parts.durable now × AllQuiet now)) }
+    ensures keeps { OnOk result (OnBoth D.Disk disk.old disk.new (λ was now. KeepsWhole (as_read was) (as_read now))) }
+    ensures stays { Steps D.Disk disk.old disk.new OpensFiles }
+    ensures any_moment { Within D.Disk disk.old disk.new (LeavesRaised journal durable) }
     ensures only { IfErr result IsFailedOrMemory }
     ensures cause { CountsFault (D.faults disk.old) (D.faults disk.new) result }
 {

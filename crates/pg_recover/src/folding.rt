@@ -1,11 +1,11 @@
 // Payload after payload is decoded, and entry after entry applied.
-ghost use Rattle.std.specs.Prelude.{◌≡◌, Some, None, length, IfOk, IfErr};
+ghost use Rattle.std.specs.Prelude.{◌≡◌, Some, length, IfOk, IfErr};
 ghost use Rattle.pg_records.specs.Entries.{HaveFields};
-ghost use Rattle.pg_fold.specs.declared.durable.Durable.{Durable as State};
 ghost use Rattle.pg_fold.specs.Fold.{fold};
 ghost use Rattle.pg_fold.specs.Sound.{IsSound};
-ghost use Rattle.pg_recover.specs.Folding.{FoldsFrom, FoldsNowhere, FoldsPayload, IsBroken, IsDamage};
-ghost use Rattle.pg_recover.specs.Places.{Covers, payloads_from};
+ghost use Rattle.pg_recover.specs.Folding.{FoldsFrom, FoldsPayload, HaveBroken, IsBroken, IsBrokenAmong};
+ghost use Rattle.pg_recover.specs.Folding.{IsBrokenPayload, IsDamage, IsDamageAt};
+ghost use Rattle.pg_recover.specs.Places.{Covers, payload_from, payloads_from};
 
 use crate::grouping::payload_in;
 use pg_disk::{Damage, Fault, FileId, Rule};
@@ -24,7 +24,7 @@ fn fold_entries(
     requires sound { IsSound durable }
     ensures folded { IfOk result (λ after. fold durable entries.items ≡ Some after) }
     ensures sound { IfOk result IsSound }
-    ensures broken { IfErr result (IsBroken (fold durable entries.items ≡ None)) }
+    ensures broken { IfErr result (IsBroken (HaveBroken durable entries.items)) }
 {
     for entry in entries {
         durable = durable.apply(alloc, entry)?;
@@ -37,7 +37,7 @@ fn fold_payload(alloc: Global, payload: &[u8], durable: Durable) -> Result<Durab
     requires { IsSound durable }
     ensures folded { IfOk result (FoldsPayload durable payload.now) }
     ensures sound { IfOk result IsSound }
-    ensures broken { IfErr result (IsBroken ((after : State) → ¬ FoldsPayload durable payload.now after)) }
+    ensures broken { IfErr result (IsBroken (IsBrokenPayload durable payload.now)) }
 {
     match decode_batch(alloc, payload)? {
         Some(entries) => fold_entries(alloc, entries, durable),
@@ -56,7 +56,7 @@ fn fold_placed(
     requires { IsSound durable }
     ensures folded { IfOk result (FoldsPayload durable payload.now) }
     ensures sound { IfOk result IsSound }
-    ensures damaged { IfErr result (IsDamage ((after : State) → ¬ FoldsPayload durable payload.now after)) }
+    ensures damaged { IfErr result (IsDamage (IsDamageAt file at (IsBrokenPayload durable payload.now))) }
 {
     match fold_payload(alloc, payload, durable) {
         Ok(after) => Ok(after),
@@ -79,7 +79,7 @@ pub(crate) fn fold_group(
     requires sound { IsSound durable }
     ensures folded { IfOk result (FoldsFrom durable (payloads_from cover.at bytes.now spans.now)) }
     ensures sound { IfOk result IsSound }
-    ensures damaged { IfErr result (IsDamage (FoldsNowhere durable (payloads_from cover.at bytes.now spans.now))) }
+    ensures damaged { IfErr result (IsDamage (IsBrokenAmong (payload_from cover.at bytes.now) file durable spans.now)) }
 {
     for span in spans {
         let payload = payload_in(bytes, cover, *span);

@@ -1,6 +1,7 @@
 // Which payloads are read together.
 ghost use Rattle.std.specs.Prelude.{◌≡◌, ◌≤◌, ◌<◌, ◌+◌, ◌-◌, ℕ, length, take, IfSome};
-ghost use Rattle.pg_recover.specs.Places.{AreInside, Covers, IsCovered, IsInside, payload_from};
+ghost use Rattle.pg_gate.specs.Payloads.{AreInside, IsInside};
+ghost use Rattle.pg_recover.specs.Places.{Covers, IsCovered, payload_from};
 
 use pg_gate::Span;
 
@@ -8,9 +9,10 @@ use pg_gate::Span;
 const PIECE: u64 = 65_536;
 
 // A place that covers this one too, if it isn't too long.
-fn covering(cover: Span, span: Span) -> Option<Span>
+fn longer_cover(cover: Span, span: Span) -> Option<Span>
     ensures both { IfSome result (λ longer. IsCovered longer cover × IsCovered longer span) }
-    ensures inside { IfSome result (λ longer. (size : ℕ) → IsInside size cover → IsInside size span → IsInside size longer) }
+    ensures inside { IfSome result (λ longer. (size : ℕ) → IsInside size cover → IsInside size span
+        → IsInside size longer) }
 {
     let end = span.at.checked_add(span.length)?;
     let length = end.checked_sub(cover.at)?;
@@ -33,7 +35,7 @@ pub(crate) fn first_group(spans: &[Span]) -> (usize, Span)
 {
     let mut cover = spans[0];
     for count in 1..spans.len() {
-        match covering(cover, spans[count]) {
+        match longer_cover(cover, spans[count]) {
             Some(longer) => cover = longer,
             None => return (count, cover),
         }

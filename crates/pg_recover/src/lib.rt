@@ -5,11 +5,11 @@ mod epochs;
 mod folding;
 mod grouping;
 mod listing;
-mod opening;
 mod reading;
+mod recovering;
 mod removing;
 mod room;
 mod syncing;
 
-pub use opening::{Parts, recover};
+pub use recovering::{Parts, recover};
 pub use room::weights_by_address;

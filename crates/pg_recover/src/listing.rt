@@ -1,7 +1,7 @@
 // The rules on the names, numbers and gaps of files.
 ghost use Rattle.std.specs.Prelude.{◌≡◌, ◌↔◌, All, MatchOption, IsTrue, Some, None, true, false};
 ghost use Rattle.pg_fold.specs.Rows.{AreNumbered, has_address};
-ghost use Rattle.pg_recover.specs.Listing.{AreListed, IsListed};
+ghost use Rattle.pg_recover.specs.Listing.{AreListed, HasUnlisted, IsListed, IsUnlisted};
 ghost use Rattle.pg_recover.specs.WellFormed.{IsFileNumber, page_file};
 
 use pg_disk::{Damage, FileId, Kind, Rule};
@@ -20,8 +20,8 @@ fn is_number(number: u64) -> bool
 // The first page of the address with this id.
 fn first_page(addresses: &[AddressRow], id: u32) -> Option<u64>
     requires { AreNumbered addresses.now }
-    ensures { MatchOption result (has_address addresses.now id ≡ false)
-        (λ first. (has_address addresses.now id ≡ true) × All (λ row. row.id ≡ id → row.first ≡ first) addresses.now) }
+    ensures { MatchOption result (has_address addresses.now id ≡ false) (λ first.
+        (has_address addresses.now id ≡ true) × All (λ row. row.id ≡ id → row.first ≡ first) addresses.now) }
 {
     let place = (id as usize).checked_sub(1)?;
     let row = addresses.get(place)?;
@@ -41,10 +41,10 @@ fn is_page(file: Option<FileId>, owner: u32, number: u64) -> bool
 }
 
 // The rule that a page breaks, where this file stands before it in the listing.
-fn page_breaks(file: FileId, before: Option<FileId>, addresses: &[AddressRow]) -> Option<Rule>
+fn broken_page_rule(file: FileId, before: Option<FileId>, addresses: &[AddressRow]) -> Option<Rule>
     requires numbered { AreNumbered addresses.now }
     requires page { file.kind ≡ Kind.Page }
-    ensures { MatchOption result (IsListed addresses.now before file) (λ _. IsListed addresses.now before file → ⊥) }
+    ensures { MatchOption result (IsListed addresses.now before file) (IsUnlisted addresses.now before file) }
 {
     let first = match first_page(addresses, file.owner) {
         Some(first) if is_number(file.number) => first,
@@ -61,14 +61,14 @@ fn page_breaks(file: FileId, before: Option<FileId>, addresses: &[AddressRow]) -
 }
 
 // The rule that a file breaks, where this one stands before it in the listing.
-fn file_breaks(file: FileId, before: Option<FileId>, addresses: &[AddressRow]) -> Option<Rule>
+fn broken_file_rule(file: FileId, before: Option<FileId>, addresses: &[AddressRow]) -> Option<Rule>
     requires { AreNumbered addresses.now }
-    ensures { MatchOption result (IsListed addresses.now before file) (λ _. IsListed addresses.now before file → ⊥) }
+    ensures { MatchOption result (IsListed addresses.now before file) (IsUnlisted addresses.now before file) }
 {
     match file.kind {
         Kind::Journal if file.owner == 0 && is_number(file.number) => None,
         Kind::Journal => Some(Rule::Name),
-        Kind::Page => page_breaks(file, before, addresses),
+        Kind::Page => broken_page_rule(file, before, addresses),
         Kind::Large => None,
     }
 }
@@ -76,11 +76,11 @@ fn file_breaks(file: FileId, before: Option<FileId>, addresses: &[AddressRow]) -
 // The first damage that the listing shows.
 pub(crate) fn listing_damage(files: &[FileId], addresses: &[AddressRow]) -> Option<Damage>
     requires { AreNumbered addresses.now }
-    ensures { MatchOption result (AreListed addresses.now None files.now) (λ _. AreListed addresses.now None files.now → ⊥) }
+    ensures { MatchOption result (AreListed addresses.now None files.now) (HasUnlisted addresses.now None files.now) }
 {
     let mut before = None;
     for file in files {
-        if let Some(rule) = file_breaks(*file, before, addresses) {
+        if let Some(rule) = broken_file_rule(*file, before, addresses) {
             return Some(Damage {
                 file: *file,
                 at: 0,

@@ -1,16 +1,19 @@
 // The journal is found and read, in large pieces.
 ghost use Rattle.std.specs.Prelude.{◌≡◌, ◌≤◌, ◌+◌, ℕ, length, IfOk, IfErr, OnOk};
-ghost use Rattle.pg_disk.specs.Account.{account, IsHonest};
-ghost use Rattle.pg_disk.specs.Calls.{Changes, Reads};
+ghost use Rattle.pg_disk.specs.Sites.{OnBoth, OnBytes, OnFiles, Steps};
+ghost use Rattle.pg_disk.specs.Account.{AllQuiet};
+ghost use Rattle.pg_disk.specs.Calls.{Reads};
 ghost use Rattle.pg_disk.specs.Counts.{CountsFault};
 ghost use Rattle.pg_disk.specs.Image.{IsFileThere, Leaves};
 ghost use Rattle.pg_disk.specs.Moments.{Within};
-ghost use Rattle.pg_gate.specs.Spans.{AsRead};
+ghost use Rattle.pg_disk.specs.Views.{as_read};
 ghost use Rattle.pg_journal.specs.Looks.{ReadsGenerations};
 ghost use Rattle.pg_fold.specs.Sound.{IsSound};
-ghost use Rattle.pg_recover.specs.Folding.{FoldsFrom, FoldsNowhere, IsDamageOnly};
-ghost use Rattle.pg_recover.specs.Places.{AreInside, Covers, IsInside, payloads_at};
-ghost use Rattle.pg_recover.specs.Recovered.{AllQuiet, AreIllFormed, AreKept, KeepsFiles};
+ghost use Rattle.pg_recover.specs.Damaging.{IsBrokenThere};
+ghost use Rattle.pg_recover.specs.Folding.{FoldsFrom, IsBrokenAmong, IsDamageOnly};
+ghost use Rattle.pg_recover.specs.Places.{Covers};
+ghost use Rattle.pg_gate.specs.Payloads.{AreInside, IsInside, payload_at, payloads_at};
+ghost use Rattle.pg_recover.specs.Recovered.{AreKept, KeepsFiles};
 ghost use Rattle.pg_recover.specs.Said.{IsReadFrom, LeavesSaid};
 
 use crate::folding::fold_group;
@@ -30,16 +33,16 @@ fn read_group<D: Disk>(
     spans: &[Span],
     durable: Durable,
 ) -> Result<Durable, Fault>
-    requires there { IsHonest (D.tells disk.old) → IsFileThere file (account (D.tells disk.old)).files }
+    requires there { OnFiles D.Disk disk.old (IsFileThere file) }
     requires covers { Covers cover spans.now }
     requires sound { IsSound durable }
-    ensures folded { IfOk result (λ after. AsRead file (D.tells disk.old) (λ bytes. IsInside (length bytes) cover →
+    ensures folded { IfOk result (λ after. OnBytes D.Disk disk.old file (λ bytes. IsInside (length bytes) cover →
         FoldsFrom durable (payloads_at bytes spans.now) after)) }
     ensures sound { IfOk result IsSound }
-    ensures same { (n : ℕ) × Changes (D.tells disk.old) (D.tells disk.new) (Reads n) }
-    ensures any_moment { Within D.moment D.left_since disk.old disk.new (Leaves (D.tells disk.old)) }
-    ensures damaged { IfErr result (IsDamageOnly (AsRead file (D.tells disk.old) (λ bytes. IsInside (length bytes) cover →
-        FoldsNowhere durable (payloads_at bytes spans.now)))) }
+    ensures same { (n : ℕ) × Steps D.Disk disk.old disk.new (Reads n) }
+    ensures any_moment { Within D.Disk disk.old disk.new Leaves }
+    ensures damaged { IfErr result (IsDamageOnly (λ damage. OnBytes D.Disk disk.old file (λ bytes.
+        IsInside (length bytes) cover → IsBrokenAmong (payload_at bytes) file durable spans.now damage))) }
     ensures cause { CountsFault (D.faults disk.old) (D.faults disk.new) result }
 {
     let bytes = read_span(alloc, disk, file, cover)?;
@@ -54,15 +57,15 @@ fn read_payloads<D: Disk>(
     spans: &[Span],
     mut durable: Durable,
 ) -> Result<Durable, Fault>
-    requires there { IsHonest (D.tells disk.old) → IsFileThere file (account (D.tells disk.old)).files }
+    requires there { OnFiles D.Disk disk.old (IsFileThere file) }
     requires sound { IsSound durable }
-    ensures folded { IfOk result (λ after. AsRead file (D.tells disk.old) (λ bytes. AreInside (length bytes) spans.now →
+    ensures folded { IfOk result (λ after. OnBytes D.Disk disk.old file (λ bytes. AreInside (length bytes) spans.now →
         FoldsFrom durable (payloads_at bytes spans.now) after)) }
     ensures sound { IfOk result IsSound }
-    ensures same { (n : ℕ) × Changes (D.tells disk.old) (D.tells disk.new) (Reads n) }
-    ensures any_moment { Within D.moment D.left_since disk.old disk.new (Leaves (D.tells disk.old)) }
-    ensures damaged { IfErr result (IsDamageOnly (AsRead file (D.tells disk.old) (λ bytes. AreInside (length bytes) spans.now →
-        FoldsNowhere durable (payloads_at bytes spans.now)))) }
+    ensures same { (n : ℕ) × Steps D.Disk disk.old disk.new (Reads n) }
+    ensures any_moment { Within D.Disk disk.old disk.new Leaves }
+    ensures damaged { IfErr result (IsDamageOnly (λ damage. OnBytes D.Disk disk.old file (λ bytes.
+        AreInside (length bytes) spans.now → IsBrokenAmong (payload_at bytes) file durable spans.now damage))) }
     ensures cause { CountsFault (D.faults disk.old) (D.faults disk.new) result }
 {
     let mut rest = spans;
@@ -80,15 +83,15 @@ pub(crate) fn read_journal<D: Disk>(
     alloc: Global,
     disk: &mut D,
 ) -> Result<(Journal, Durable), Fault>
-    requires { IsHonest (D.tells disk.old) → AllQuiet (account (D.tells disk.old)).files }
-    ensures found { IfOk result (λ found. IsHonest (D.tells disk.old) →
-        IsReadFrom found.0 found.1 (account (D.tells disk.old)).files (account (D.tells disk.new)).files) }
+    requires { OnFiles D.Disk disk.old AllQuiet }
+    ensures found { IfOk result (λ found. OnBoth D.Disk disk.old disk.new (IsReadFrom found.0 found.1)) }
     ensures sound { IfOk result (λ found. IsSound found.1) }
-    ensures stays { Changes (D.tells disk.old) (D.tells disk.new) ReadsGenerations }
-    ensures keeps { OnOk result (Changes (D.tells disk.old) (D.tells disk.new) KeepsFiles) }
+    ensures stays { Steps D.Disk disk.old disk.new ReadsGenerations }
+    ensures keeps { OnOk result (Steps D.Disk disk.old disk.new KeepsFiles) }
     ensures kept { IfErr result (AreKept (D.tells disk.old) (D.tells disk.new)) }
-    ensures any_moment { Within D.moment D.left_since disk.old disk.new (LeavesSaid (D.tells disk.old)) }
-    ensures damaged { IfErr result (IsDamageOnly (AreIllFormed (D.tells disk.old))) }
+    ensures any_moment { Within D.Disk disk.old disk.new LeavesSaid }
+    ensures damaged { IfErr result (IsDamageOnly (λ damage.
+        OnFiles D.Disk disk.old (λ files. IsBrokenThere (as_read files) damage))) }
     ensures cause { CountsFault (D.faults disk.old) (D.faults disk.new) result }
 {
     let (journal, spans) = Journal::find(alloc, disk)?;

@@ -1,12 +1,12 @@
 // The other generations of the journal are removed.
 ghost use Rattle.std.specs.Prelude.{◌≡◌, ◌↔◌, None, OnOk, IsTrue};
 ghost use Rattle.std.specs.FinMap.{get};
-ghost use Rattle.pg_disk.specs.Account.{account, IsHonest};
-ghost use Rattle.pg_disk.specs.Calls.{Changes};
+ghost use Rattle.pg_disk.specs.Sites.{OnBoth, OnFiles, Steps};
 ghost use Rattle.pg_disk.specs.Counts.{CountsDisk};
 ghost use Rattle.pg_disk.specs.Image.{IsFileThere};
 ghost use Rattle.pg_disk.specs.Moments.{Within};
-ghost use Rattle.pg_recover.specs.Removing.{HasNoOther, IsOther, LeavesOthersGone, ListsOthers, RemovesOther, RemovesOthers};
+ghost use Rattle.pg_recover.specs.Removing.{HasNoOther, IsOther, LeavesOthersGone, ListsOthers};
+ghost use Rattle.pg_recover.specs.Removing.{RemovesOther, RemovesOthers};
 
 use pg_disk::{Disk, Failed, FileId, Kind};
 
@@ -19,10 +19,10 @@ fn is_other(keep: FileId, file: FileId) -> bool
 
 // Removes the file, where it is another generation.
 fn remove_other<D: Disk>(disk: &mut D, file: FileId, keep: FileId) -> Result<(), Failed>
-    requires { IsHonest (D.tells disk.old) → IsOther keep file → IsFileThere file (account (D.tells disk.old)).files }
-    ensures stays { Changes (D.tells disk.old) (D.tells disk.new) (RemovesOther keep file) }
-    ensures gone { OnOk result (IsHonest (D.tells disk.old) → IsOther keep file → get (account (D.tells disk.new)).files file ≡ None) }
-    ensures any_moment { Within D.moment D.left_since disk.old disk.new (LeavesOthersGone keep (D.tells disk.old)) }
+    requires { OnFiles D.Disk disk.old (λ files. IsOther keep file → IsFileThere file files) }
+    ensures stays { Steps D.Disk disk.old disk.new (RemovesOther keep file) }
+    ensures gone { OnOk result (OnBoth D.Disk disk.old disk.new (λ _ now. IsOther keep file → get now file ≡ None)) }
+    ensures any_moment { Within D.Disk disk.old disk.new (LeavesOthersGone keep) }
     ensures cause { CountsDisk (D.faults disk.old) (D.faults disk.new) result }
 {
     if is_other(keep, file) {
@@ -38,10 +38,10 @@ pub(crate) fn remove_others<D: Disk>(
     files: &[FileId],
     keep: FileId,
 ) -> Result<(), Failed>
-    requires { IsHonest (D.tells disk.old) → ListsOthers files.now keep (account (D.tells disk.old)).files }
-    ensures stays { Changes (D.tells disk.old) (D.tells disk.new) (RemovesOthers keep) }
-    ensures alone { OnOk result (IsHonest (D.tells disk.old) → HasNoOther keep (account (D.tells disk.new)).files) }
-    ensures any_moment { Within D.moment D.left_since disk.old disk.new (LeavesOthersGone keep (D.tells disk.old)) }
+    requires { OnFiles D.Disk disk.old (ListsOthers files.now keep) }
+    ensures stays { Steps D.Disk disk.old disk.new (RemovesOthers keep) }
+    ensures alone { OnOk result (OnBoth D.Disk disk.old disk.new (λ _ now. HasNoOther keep now)) }
+    ensures any_moment { Within D.Disk disk.old disk.new (LeavesOthersGone keep) }
     ensures cause { CountsDisk (D.faults disk.old) (D.faults disk.new) result }
 {
     for file in files {

@@ -1,5 +1,6 @@
 // Whether the messages of each address have room in memory.
-ghost use Rattle.std.specs.Prelude.{◌≡◌, ◌≤◌, ◌<◌, ◌+◌, ◌-◌, ◌^◌, ◌==◌, ◌↔◌, ℕ, min, length, slice_index, slice_index_or, All, EachIndex, IsTrue, IfOk, if◌then◌else◌};
+ghost use Rattle.std.specs.Prelude.{◌≡◌, ◌≤◌, ◌<◌, ◌+◌, ◌-◌, ◌^◌, ◌==◌, ◌↔◌, ℕ, min, length, if◌then◌else◌};
+ghost use Rattle.std.specs.Prelude.{slice_index, slice_index_or, All, EachIndex, IsTrue, IfOk};
 ghost use Rattle.pg_msg.specs.Messages.{HasFields, weight_of};
 ghost use Rattle.pg_recover.specs.Denotation.{weight_at};
 ghost use Rattle.pg_fold.specs.Sound.{IsSound};
@@ -17,7 +18,8 @@ fn add_weight(sums: &mut Vec<u64>, row: &JournaledRow)
     requires { HasFields row.now.message }
     ensures count { length sums.new.items ≡ length sums.old.items }
     ensures each { EachIndex sums.new.items (λ k. slice_index sums.new.items k
-        ≡ min (slice_index sums.old.items k + (if row.now.address == k + 1 then weight_of row.now.message else 0)) (2 ^ 64 - 1)) }
+        ≡ min (slice_index sums.old.items k + (if row.now.address == k + 1 then weight_of row.now.message else 0))
+        (2 ^ 64 - 1)) }
 {
     let address = row.address as usize;
     if address == 0 || address > sums.len() {
@@ -26,8 +28,8 @@ fn add_weight(sums: &mut Vec<u64>, row: &JournaledRow)
     sums[address - 1] = sums[address - 1].saturating_add(weight(&row.message));
 }
 
-/// How many bytes the messages of each of so many addresses weigh, in the order of the addresses' ids. A sum that would be
-/// greater than its type's end is that. Fails only where there is no memory for them.
+/// How many bytes the messages of each of so many addresses weigh, in the order of the addresses' ids. A sum that would
+/// be greater than its type's end is that. Fails only where there is no memory for them.
 pub fn weights_by_address(
     alloc: Global,
     count: usize,
@@ -35,7 +37,8 @@ pub fn weights_by_address(
 ) -> Result<Vec<u64>, AllocError>
     requires { All (λ row. HasFields row.message) rows.now }
     ensures count { IfOk result (λ sums. length sums.items ≡ count) }
-    ensures each { IfOk result (λ sums. EachIndex sums.items (λ k. slice_index sums.items k ≡ min (weight_at (k + 1) rows.now) (2 ^ 64 - 1))) }
+    ensures each { IfOk result (λ sums. EachIndex sums.items (λ k.
+        slice_index sums.items k ≡ min (weight_at (k + 1) rows.now) (2 ^ 64 - 1))) }
 {
     let mut sums = vec![in alloc; 0; count]?;
     for row in rows {

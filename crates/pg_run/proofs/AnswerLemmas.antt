@@ -2,28 +2,30 @@
 use Rattle.std.proofs.Common.{◌≡◌, ◌⊎◌, inl, inr, ⊎_elim, ℕ, ◌+◌, ◌≤◌, ◌<◌, List, [], ◌∷◌, ◌++◌, length, take, drop, Bool, true, Option, Result, Ok, Err, refl, sym, ◌∙◌, ap, subst, arith, length-drop, take-append-drop}
 use Rattle.std.proofs.lemmas.List.{append-nil, take_all}
 use Rattle.std.specs.Prelude.{IfErr, IsErr, IsErrAnd, IsErrOf, MatchResult}
+use Rattle.pg_disk.specs.declared.disk.Disk.{Ghosts}
 use Rattle.pg_disk.specs.declared.fault.Fault.{Fault}
 use Rattle.pg_disk.specs.declared.fault.SiteFault.{SiteFault}
 use Rattle.pg_disk.specs.declared.fault.SiteFault.TheVariants.{Disk, Sink}
-use Rattle.pg_disk.specs.Account.{Account, account, IsHonest}
+use Rattle.pg_disk.specs.Account.{Account, account, IsHonest, AllQuiet}
 use Rattle.pg_disk.specs.Calls.{Changes, Emits}
 use Rattle.pg_disk.specs.Files.{Files}
 use Rattle.pg_disk.specs.Image.{Leaves, LeavesPrefix}
-use Rattle.pg_disk.specs.Moments.{Elapses, Within}
-use Rattle.pg_disk.proofs.Runs.{started, goes_on, weaker, then_run}
+use Rattle.pg_disk.specs.Elapsing.{Elapses}
+use Rattle.pg_disk.specs.Meanings.{Decides, Either, LeavesMeaning}
+use Rattle.pg_disk.specs.Moments.{Within}
+use Rattle.pg_disk.proofs.Composing.{started, goes_on, weaker, then_run}
 use Rattle.pg_msg.specs.declared.command.Command.{Command}
 use Rattle.pg_msg.specs.declared.reply.Reply.{Reply}
 use Rattle.pg_text.specs.Spelling.{ReadsAs}
 use Rattle.pg_text.specs.Replies.{reply_line, reply_bytes}
-use Rattle.pg_journal.specs.Generations.{as_left, as_read}
+use Rattle.pg_disk.specs.Views.{as_left, as_read}
 use Rattle.pg_engine.specs.declared.engine.Engine.{Engine}
 use Rattle.pg_recover.specs.Broker.{Broker, Step, last_state}
 use Rattle.pg_recover.specs.Denotation.{Denotes}
-use Rattle.pg_recover.specs.Recovered.{AllQuiet}
-use Rattle.pg_recover.specs.Staying.{StaysWell}
+use Rattle.pg_recover.specs.Staying.{LeavesWell, StaysWell}
 use Rattle.pg_recover.specs.WellFormed.{WellFormed}
 use Rattle.pg_recover.proofs.WellLemmas.{image_well}
-use Rattle.pg_engine.specs.Executed.{state_of, Owns, LeavesEither, StandsAt, Executes}
+use Rattle.pg_engine.specs.Executed.{state_of, Owns, Keeps, StandsAt, Executes}
 use Rattle.pg_engine.proofs.Executing.{owned_denote}
 use Rattle.pg_run.specs.Answered.{Answers, IsPartOf}
 use Rattle.pg_run.specs.Served.{Tells, LeavesBetween, Serves, ServesAll}
@@ -65,17 +67,17 @@ told_of reply count within = elim (less_or_all count (length (reply_line reply))
 
 module _ (first : Broker) (item : Option Command) (reply : Reply) (next : Broker) (entry : Option Account) where
   -- before anything of the reply is told
-  pub either_between : (image : Files) (told : List ℕ) → LeavesEither first.durable next.durable entry image told → LeavesBetween first (reply ∷ []) (next ∷ []) entry image told
-  either_between image told left = elim left.denoted [
-    | inl before ↦ between 0 (inl refl) (omega arith) before
-    | inr after ↦ between 1 (inr refl) (omega arith) after
+  pub either_between : (image : Files) (told : List ℕ) → LeavesMeaning (Either (Keeps first.durable) (Keeps next.durable)) entry image told → LeavesBetween first (reply ∷ []) (next ∷ []) entry image told
+  either_between image told left = elim left.means [
+    | inl before ↦ between 0 (inl refl) (omega arith) before.denoted before.well
+    | inr after ↦ between 1 (inr refl) (omega arith) after.denoted after.well
   ]
     where
-      between : (k : ℕ) → (k ≡ 0) ⊎ (k ≡ 0 + 1) → k ≤ 1 → Denotes (as_left image) (last_state first (take k (next ∷ []))).durable → LeavesBetween first (reply ∷ []) (next ∷ []) entry image told
-      between k close within denoted = record {
+      between : (k : ℕ) → (k ≡ 0) ⊎ (k ≡ 0 + 1) → k ≤ 1 → Denotes (as_left image) (last_state first (take k (next ∷ []))).durable → LeavesWell entry image → LeavesBetween first (reply ∷ []) (next ∷ []) entry image told
+      between k close within denoted well = record {
         honest = left.honest;
         between = record { n = 0; k = k; close = close; within = within; more = []; bytes = left.nothing ∙ sym (append-nil (account entry).told); tells = none_told reply; denoted = denoted };
-        well = left.well;
+        well = well;
       }
 
   -- while the reply is told
@@ -125,17 +127,17 @@ no_part Sink part none = tt
 abbrev nothing_told : Tells [] 0 []
 nothing_told = record { part = []; within = omega arith; bytes = refl; begun = refl }
 
-module _ {D : Type 0} (moment : D → ℕ) (left_since : D → ℕ → Files → List ℕ → Type 0) (tells : D → Option Account) (old : D) (first : Broker) (line : List ℕ) (honest : IsHonest (tells old)) where
+module _ {D : Type 0} (m : Ghosts D) (old : D) (first : Broker) (line : List ℕ) (honest : IsHonest (m.tells old)) where
   -- the line wasn't begun
-  pub unanswered : (engine : Engine) → ((c : Files) (b : List ℕ) → left_since old (moment old) c b → Leaves (tells old) c b) → state_of engine ≡ first → Owns engine (account (tells old)).files
-      → (serves : Serves LeavesBetween moment left_since tells first (line ∷ []) old old) × (serves.told.part ≡ [])
-  unanswered engine law stands owns = let serves : Serves LeavesBetween moment left_since tells first (line ∷ []) old old = record {
+  pub unanswered : (engine : Engine) → ((c : Files) (b : List ℕ) → m.left_since old (m.moment old) c b → Leaves (m.tells old) c b) → state_of engine ≡ first → Owns engine (account (m.tells old)).files
+      → (serves : Serves LeavesBetween m first (line ∷ []) old old) × (serves.told.part ≡ [])
+  unanswered engine law stands owns = let serves : Serves LeavesBetween m first (line ∷ []) old old = record {
     items = [];
     replies = [];
     states = [];
     read = tt;
     run = tt;
-    moments = started moment left_since old _ (λ c b left.
+    moments = started m old _ (λ c b left.
         let now = law c b left in
         record {
           honest = now.honest;
@@ -145,46 +147,46 @@ module _ {D : Type 0} (moment : D → ℕ) (left_since : D → ℕ → Files →
             close = inl refl;
             within = omega arith;
             more = [];
-            bytes = now.told ∙ sym (append-nil (account (tells old)).told);
+            bytes = now.told ∙ sym (append-nil (account (m.tells old)).told);
             tells = nothing_told;
-            denoted = subst (λ (s : Broker). Denotes (as_left c) s.durable) stands (owned_denote engine (account (tells old)).files c owns now.image);
+            denoted = subst (λ (s : Broker). Denotes (as_left c) s.durable) stands (owned_denote engine (account (m.tells old)).files c owns now.image);
           };
-          well = λ quiet. image_well (account (tells old)).files c quiet now.image;
+          well = λ quiet. image_well (account (m.tells old)).files c quiet now.image;
         });
     kept = honest;
     n = 0;
     last = inl refl;
     more = [];
-    bytes = sym (append-nil (account (tells old)).told);
+    bytes = sym (append-nil (account (m.tells old)).told);
     told = nothing_told;
   } in (serves, refl)
 
   module _ (item : Option Command) (reads : ReadsAs line item) (reply : Reply) (next : Broker) (step : Step first item reply next) (mid : D)
-      (moments : Within moment left_since old mid (LeavesEither first.durable next.durable (tells old))) (told : (account (tells mid)).told ≡ (account (tells old)).told) where
+      (moments : Decides m (Keeps first.durable) (Keeps next.durable) old mid) (told : (account (m.tells mid)).told ≡ (account (m.tells old)).told) where
     -- the line was interrupted, and nothing is told of its reply
-    pub interrupted : IsHonest (tells mid) → (serves : Serves LeavesBetween moment left_since tells first (line ∷ []) old mid) × (serves.told.part ≡ [])
-    interrupted kept = let serves : Serves LeavesBetween moment left_since tells first (line ∷ []) old mid = record {
+    pub interrupted : IsHonest (m.tells mid) → (serves : Serves LeavesBetween m first (line ∷ []) old mid) × (serves.told.part ≡ [])
+    interrupted kept = let serves : Serves LeavesBetween m first (line ∷ []) old mid = record {
       items = item ∷ [];
       replies = reply ∷ [];
       states = next ∷ [];
       read = (reads, tt);
       run = (step, tt);
-      moments = weaker moment left_since old mid _ _ moments (either_between first item reply next (tells old));
+      moments = weaker m old mid _ _ moments (either_between first item reply next (m.tells old));
       kept = kept;
       n = 0;
       last = inr refl;
       more = [];
-      bytes = told ∙ sym (append-nil (account (tells old)).told);
+      bytes = told ∙ sym (append-nil (account (m.tells old)).told);
       told = none_told reply;
     } in (serves, refl)
 
-    module _ (engine : Engine) (stands : StandsAt engine next (tells mid)) (stays : StaysWell (tells old) (tells mid)) (new : D) (telling : Within moment left_since mid new (LeavesPrefix (reply_line reply) (tells mid))) where
-      all_moments : Within moment left_since old new (LeavesBetween first (reply ∷ []) (next ∷ []) (tells old))
-      all_moments = then_run moment left_since old mid new _ _ (weaker moment left_since old mid _ _ moments (either_between first item reply next (tells old))) telling
-          (prefix_between first item reply next (tells old) (tells mid) engine honest told stands stays)
+    module _ (engine : Engine) (stands : StandsAt engine next (m.tells mid)) (stays : StaysWell (m.tells old) (m.tells mid)) (new : D) (telling : Within m mid new (LeavesPrefix (reply_line reply))) where
+      all_moments : Within m old new (LeavesBetween first (reply ∷ []) (next ∷ []))
+      all_moments = then_run m old mid new _ _ (weaker m old mid _ _ moments (either_between first item reply next (m.tells old))) telling
+          (prefix_between first item reply next (m.tells old) (m.tells mid) engine honest told stands stays)
 
       -- its reply was told in part
-      pub half_told : (ok : Bool) → Changes (tells mid) (tells new) (Emits (reply_line reply) ok) → Serves LeavesBetween moment left_since tells first (line ∷ []) old new
+      pub half_told : (ok : Bool) → Changes (m.tells mid) (m.tells new) (Emits (reply_line reply) ok) → Serves LeavesBetween m first (line ∷ []) old new
       half_told ok changes =
           let emits = changes.step stands.kept in
           let part = told_of reply emits.count emits.within in
@@ -204,7 +206,7 @@ module _ {D : Type 0} (moment : D → ℕ) (left_since : D → ℕ → Files →
           }
 
       -- its reply was told
-      pub answered : Changes (tells mid) (tells new) (Emits (reply_line reply) true) → ServesAll moment left_since tells first (line ∷ []) old new engine
+      pub answered : Changes (m.tells mid) (m.tells new) (Emits (reply_line reply) true) → ServesAll m first (line ∷ []) old new engine
       answered changes =
           let emits = changes.step stands.kept in
           record {
@@ -216,7 +218,7 @@ module _ {D : Type 0} (moment : D → ℕ) (left_since : D → ℕ → Files →
             run = (step, tt);
             moments = all_moments;
             told = emits.told ∙ (ap (λ (bytes : List ℕ). bytes ++ take emits.count (reply_line reply)) told
-                ∙ ap (λ (bytes : List ℕ). (account (tells old)).told ++ bytes) (take_all emits.count (reply_line reply) (omega (arith, emits.all refl)) ∙ sym (one_bytes reply)));
+                ∙ ap (λ (bytes : List ℕ). (account (m.tells old)).told ++ bytes) (take_all emits.count (reply_line reply) (omega (arith, emits.all refl)) ∙ sym (one_bytes reply)));
             stands = record {
               kept = changes.kept stands.kept;
               stands = stands.stands;
@@ -229,19 +231,19 @@ module _ {D : Type 0} (moment : D → ℕ) (left_since : D → ℕ → Files →
           }
 
   -- an Err owes what was served so far
-  pub answers_err : (new : D) (result : Result Engine SiteFault) → IsErr result → (serves : Serves LeavesBetween moment left_since tells first (line ∷ []) old new) → serves.told.part ≡ [] → Answers moment left_since tells first line old new result
+  pub answers_err : (new : D) (result : Result Engine SiteFault) → IsErr result → (serves : Serves LeavesBetween m first (line ∷ []) old new) → serves.told.part ≡ [] → Answers m first line old new result
   answers_err new result failed serves quiet = at_err _ _ result failed (λ fault. (serves, no_part fault serves.told.part quiet))
 
   -- where the output failed a part of the reply may be told
-  pub answers_sink : (new : D) (result : Result Engine SiteFault) → IsErrOf result Sink → Serves LeavesBetween moment left_since tells first (line ∷ []) old new → Answers moment left_since tells first line old new result
+  pub answers_sink : (new : D) (result : Result Engine SiteFault) → IsErrOf result Sink → Serves LeavesBetween m first (line ∷ []) old new → Answers m first line old new result
   answers_sink new result failed serves = at_err_of _ _ result Sink failed (serves, tt)
 
   -- what an execution that gave up leaves
-  pub gave_up : (engine : Engine) → ((c : Files) (b : List ℕ) → left_since old (moment old) c b → Leaves (tells old) c b) → state_of engine ≡ first → Owns engine (account (tells old)).files
-      → (mid : D) (result : Result (Engine × Reply) Fault) → (IsErr result × (mid ≡ old)) ⊎ ((item : Option Command) × ReadsAs line item × Executes moment left_since tells first item old mid result)
-      → (serves : Serves LeavesBetween moment left_since tells first (line ∷ []) old mid) × (serves.told.part ≡ [])
+  pub gave_up : (engine : Engine) → ((c : Files) (b : List ℕ) → m.left_since old (m.moment old) c b → Leaves (m.tells old) c b) → state_of engine ≡ first → Owns engine (account (m.tells old)).files
+      → (mid : D) (result : Result (Engine × Reply) Fault) → (IsErr result × (mid ≡ old)) ⊎ ((item : Option Command) × ReadsAs line item × Executes m first item old mid result)
+      → (serves : Serves LeavesBetween m first (line ∷ []) old mid) × (serves.told.part ≡ [])
   gave_up engine law stands owns mid result outcome = elim outcome [
-    | inl none ↦ subst (λ d. (serves : Serves LeavesBetween moment left_since tells first (line ∷ []) old d) × (serves.told.part ≡ [])) (sym none.1) (unanswered engine law stands owns)
+    | inl none ↦ subst (λ d. (serves : Serves LeavesBetween m first (line ∷ []) old d) × (serves.told.part ≡ [])) (sym none.1) (unanswered engine law stands owns)
     | inr some ↦ interrupted some.0 some.1 some.2.reply some.2.next some.2.step mid some.2.moments some.2.told some.2.kept
   ]
 
@@ -257,12 +259,12 @@ module _ {D : Type 0} (moment : D → ℕ) (left_since : D → ℕ → Files →
     pub reads : ReadsAs line item
     pub next : Broker
     pub step : Step first item reply next
-    pub moments : Within moment left_since old mid (LeavesEither first.durable next.durable (tells old))
-    pub told : (account (tells mid)).told ≡ (account (tells old)).told
-    pub stands : StandsAt engine next (tells mid)
-    pub stays : StaysWell (tells old) (tells mid)
+    pub moments : Decides m (Keeps first.durable) (Keeps next.durable) old mid
+    pub told : (account (m.tells mid)).told ≡ (account (m.tells old)).told
+    pub stands : StandsAt engine next (m.tells mid)
+    pub stays : StaysWell (m.tells old) (m.tells mid)
 
-  pub executed : (mid : D) (engine : Engine) (reply : Reply) → (IsErr (done_of engine reply) × (mid ≡ old)) ⊎ ((item : Option Command) × ReadsAs line item × Executes moment left_since tells first item old mid (Ok (engine, reply)))
+  pub executed : (mid : D) (engine : Engine) (reply : Reply) → (IsErr (done_of engine reply) × (mid ≡ old)) ⊎ ((item : Option Command) × ReadsAs line item × Executes m first item old mid (Ok (engine, reply)))
       → Executed mid engine reply
   executed mid engine reply outcome = elim outcome [
     | inl none ↦ absurd (no_err _ (engine, reply) refl none.0)
@@ -279,7 +281,7 @@ module _ {D : Type 0} (moment : D → ℕ) (left_since : D → ℕ → Files →
   ]
 
 -- the moments of one emit
-pub told_within : {D : Type 0} (moment : D → ℕ) (left_since : D → ℕ → Files → List ℕ → Type 0) (tells : D → Option Account) (old : D) → ((c : Files) (b : List ℕ) → left_since old (moment old) c b → Leaves (tells old) c b) → (piece : List ℕ) (new : D)
-    → Elapses (moment old) (moment new) (left_since old) (left_since new) (LeavesPrefix piece (tells old)) → Within moment left_since old new (LeavesPrefix piece (tells old))
-told_within moment left_since tells old law piece new time = goes_on moment left_since old old new _ _
-    (started moment left_since old _ (λ c b left. let now = law c b left in record { honest = now.honest; image = now.image; count = 0; within = omega arith; told = now.told ∙ sym (append-nil (account (tells old)).told) })) time (λ c b left. left)
+pub told_within : {D : Type 0} (m : Ghosts D) (old : D) → ((c : Files) (b : List ℕ) → m.left_since old (m.moment old) c b → Leaves (m.tells old) c b) → (piece : List ℕ) (new : D)
+    → Elapses (m.moment old) (m.moment new) (m.left_since old) (m.left_since new) (LeavesPrefix piece (m.tells old)) → Within m old new (LeavesPrefix piece)
+told_within m old law piece new time = goes_on m old old new _ _
+    (started m old _ (λ c b left. let now = law c b left in record { honest = now.honest; image = now.image; count = 0; within = omega arith; told = now.told ∙ sym (append-nil (account (m.tells old)).told) })) time (λ c b left. left)

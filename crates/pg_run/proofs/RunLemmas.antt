@@ -8,7 +8,7 @@ use Rattle.pg_msg.specs.declared.command.Command.{Command}
 use Rattle.pg_msg.specs.declared.reply.Reply.{Reply}
 use Rattle.pg_text.specs.Spelling.{ReadAs}
 use Rattle.pg_text.specs.Replies.{reply_text, reply_line, reply_bytes, BeginsNext}
-use Rattle.pg_journal.specs.Generations.{as_left}
+use Rattle.pg_disk.specs.Views.{as_left}
 use Rattle.pg_recover.specs.Broker.{Broker, Run, last_state}
 use Rattle.pg_recover.specs.Denotation.{Denotes}
 use Rattle.pg_recover.specs.Staying.{StaysWell}

@@ -1,39 +1,45 @@
 -- A run that begins with opening.
-use Rattle.std.proofs.Common.{◌≡◌, inl, inr, ⊎_elim, ℕ, List, [], ◌∷◌, ◌++◌, length, take, Option, Some, None, refl, sym, ◌∙◌, ap, subst, arith, length-append}
+use Rattle.std.proofs.Common.{zero, suc, ◌≡◌, inl, inr, ⊎_elim, ℕ, List, [], ◌∷◌, ◌++◌, length, take, drop, Option, Some, None, refl, sym, ◌∙◌, ap, subst, arith, append_assoc, length-append}
 use Rattle.std.proofs.lemmas.List.{append-nil, take_all}
 use Rattle.std.specs.Option.{option_map}
 use Rattle.std.specs.FinMap.{FinMap, get}
+use Rattle.pg_disk.specs.declared.disk.Disk.{Ghosts}
 use Rattle.pg_disk.specs.declared.fault.Fault.{Fault}
 use Rattle.pg_disk.specs.declared.fault.Fault.TheVariants as fault
 use Rattle.pg_disk.specs.declared.file_id.FileId.{FileId}
 use Rattle.pg_disk.specs.declared.fault.SiteFault.TheVariants as site
 use Rattle.pg_disk.specs.Counts.{FaultCounts}
-use Rattle.pg_disk.specs.Account.{FileState, Account, account, IsSound, IsHonest}
+use Rattle.pg_disk.specs.Account.{FileState, Account, account, IsSound, IsHonest, AllQuiet}
 use Rattle.pg_disk.specs.Files.{file_cmp, Files}
-use Rattle.pg_disk.specs.Image.{IsLeftAt, IsImage}
-use Rattle.pg_disk.specs.Calls.{Changes}
+use Rattle.pg_disk.specs.Image.{AnyFile, IsLeftAt, IsImage, OnceQuiet}
+use Rattle.pg_disk.specs.Calls.{Changes, IsSettled}
 use Rattle.pg_disk.specs.Moments.{Within, WithinFrom}
 use Rattle.pg_disk.specs.Reads.{reads}
 use Rattle.pg_disk.proofs.ReadLemmas.{get-reads}
-use Rattle.pg_disk.proofs.Runs.{weaker, then_run}
+use Rattle.pg_disk.proofs.Composing.{once_since, once_weaker, then_run, weaker}
+use Rattle.pg_msg.specs.declared.limits.Limits.{Limits}
 use Rattle.pg_msg.specs.declared.reply.Reply.{Reply}
 use Rattle.pg_lines.specs.declared.read_error.ReadError.TheVariants as reading
-use Rattle.pg_lines.specs.Lines.{IsCut}
+use Rattle.pg_lines.specs.Lines.{IsCut, ended, lines_of}
+use Rattle.pg_lines.proofs.CutLemmas.{cut_then, has_cut}
 use Rattle.pg_text.specs.Spelling.{ReadAs}
+use Rattle.pg_text.proofs.ReadingLemmas.{read_more}
 use Rattle.pg_text.specs.Replies.{reply_line, reply_bytes, BeginsNext}
 use Rattle.pg_engine.specs.declared.engine.Engine.{Engine}
-use Rattle.pg_journal.specs.Generations.{as_read}
+use Rattle.pg_disk.specs.Views.{Contents, as_left, as_read, bytes_of}
 use Rattle.pg_recover.specs.Broker.{Durable, Broker, opened_from, last_state}
 use Rattle.pg_recover.specs.Denotation.{Denotes, durable_part}
-use Rattle.pg_recover.specs.Recovered.{AllQuiet, AreIllFormed, AreKept, BeganQuiet, HasNoEpoch, IsSpentAt, OpensFiles}
+use Rattle.pg_recover.specs.Recovered.{AreIllFormed, AreKept, HasNoEpoch, IsSpentAt, OpensFiles}
 use Rattle.pg_recover.specs.WellFormed.{WellFormed}
 use Rattle.pg_engine.specs.Executed.{state_of}
 use Rattle.pg_engine.specs.Opened.{LeavesEpoch, OpensAt}
 use Rattle.pg_engine.proofs.OpeningLemmas.{one_denoted}
 use Rattle.pg_run.specs.declared.run.Stop.{Stop}
 use Rattle.pg_run.specs.declared.run.Stop.TheVariants.{Site, Source}
-use Rattle.pg_run.specs.Ran.{IsAnyBut, IsInputServed, IsUnopened, Replies, Ran, RanOpened, ServesOpened, status_of_fault, StopCounts, IsDamagedStop, IsSpared, status_of_stop}
-use Rattle.pg_run.specs.Served.{AnyTime, Tells, IsBetween, LeavesBetween, LeavesRun}
+use Rattle.pg_run.specs.declared.status.Status.TheVariants as ended
+use Rattle.pg_run.specs.Ran.{ComesToLimit, Ends, Input, IsFullBehind, IsSpared, IsUnopened, StopsAtLimit, Ran, RanOpened, ReadsInput, ServesOpened}
+use Rattle.pg_run.specs.Statuses.{Faults, IsAnyBut, IsDamagedStop, IsInputServed, StopCounts, code_of, status_of_fault, status_of_stop}
+use Rattle.pg_run.specs.Served.{Tells, IsBetween, LeavesBetween, LeavesOpenedRun, LeavesRun, Serves}
 use Rattle.pg_run.proofs.Ending.{takes_nothing}
 use Rattle.pg_run.proofs.RunLemmas.{line_some, run_lengths}
 
@@ -45,12 +51,22 @@ begins_none (r ∷ replies) = (reply_line r, line_some r, refl)
 tells_none : (replies : List Reply) → Tells replies 0 []
 tells_none replies = record { part = []; within = omega arith; bytes = refl; begun = begins_none replies }
 
+-- where nothing of it is pending any more, a file reads as before
+settled_bytes : (s t : Option FileState) → IsSettled s t → bytes_of t ≡ bytes_of s
+settled_bytes None t settled = ap bytes_of settled
+settled_bytes (Some s) None settled = absurd settled
+settled_bytes (Some s) (Some t) settled = ap Some settled.1
+
+settled_reads : (old now : FinMap file_cmp FileState) → ((file : FileId) → AnyFile file → IsSettled (get old file) (get now file)) → as_read now ≡ as_read old
+settled_reads old now settled = λ i file. (settled_bytes (get old file) (get now file) (settled file tt)) i
+
 -- while the broker is opened
-pub opening_left : (asked : Option Account → Type 0) (ids : ℕ) (durable : Durable) (replies : List Reply) (states : List Broker) (entry : Option Account) → Denotes (as_read (account entry).files) durable → (image : Files) (told : List ℕ)
-    → LeavesEpoch (asked entry) entry image told → LeavesRun asked durable (opened_from ids durable) replies states entry image told
-opening_left asked ids durable replies states entry denoted image told left = record {
+pub opening_left : (ids : ℕ) (durable : Durable) (replies : List Reply) (states : List Broker) (entry : Option Account) → Denotes (as_read (account entry).files) durable → (image : Files) (told : List ℕ)
+    → LeavesEpoch entry image told → LeavesRun (opened_from ids durable) replies states entry image told
+opening_left ids durable replies states entry denoted image told left = record {
   honest = left.honest;
-  moment = λ now. ⊎_elim (λ before. inl (left.nothing, before))
+  moment = ⊎_elim
+      (λ before. inl (left.nothing, before.denoted))
       (λ after. inr (record {
         n = 0;
         k = 0;
@@ -59,96 +75,109 @@ opening_left asked ids durable replies states entry denoted image told left = re
         more = [];
         bytes = left.nothing ∙ sym (append-nil (account entry).told);
         tells = tells_none replies;
-        denoted = after;
+        denoted = after.denoted durable denoted;
       }))
-      (left.denoted now durable denoted);
-  well = left.well;
+      left.means;
+  well = ⊎_elim (λ before. before.well) (λ after. after.well) left.means;
 }
 
 -- after it
-pub running_left : (asked : Option Account → Type 0) (durable : Durable) (first : Broker) (replies : List Reply) (states : List Broker) (entry mid : Option Account) → IsHonest entry → (account mid).told ≡ (account entry).told → AllQuiet (account mid).files → (WellFormed (as_read (account entry).files) → WellFormed (as_read (account mid).files)) → (image : Files) (told : List ℕ)
-    → LeavesBetween first replies states mid image told → LeavesRun asked durable first replies states entry image told
-running_left asked durable first replies states entry mid honest same quiet stays image told left = record {
+pub running_left : (first : Broker) (replies : List Reply) (states : List Broker) (entry mid : Option Account) → IsHonest entry → (account mid).told ≡ (account entry).told → AllQuiet (account mid).files
+    → (WellFormed (as_read (account entry).files) → WellFormed (as_read (account mid).files)) → (image : Files) (told : List ℕ)
+    → LeavesBetween first replies states mid image told → LeavesRun first replies states entry image told
+running_left first replies states entry mid honest same quiet stays image told left = record {
   honest = honest;
-  moment = λ now. inr (subst (λ (before : List ℕ). IsBetween first replies states before image told) same left.between);
-  well = λ now was. left.well quiet (stays was);
+  moment = inr (subst (λ (before : List ℕ). IsBetween first replies states before image told) same left.between);
+  well = λ was. left.well quiet (stays was);
 }
 
-module _ {D : Type 0} (moment : D → ℕ) (left_since : D → ℕ → Files → List ℕ → Type 0) (tells : D → Option Account) (old : D) (unopened : Type 0) (ids : ℕ) where
-  module _ (durable : Durable) (honest : IsHonest (tells old)) (denoted : Denotes (as_read (account (tells old)).files) durable) (mid : D) (same : (account (tells mid)).told ≡ (account (tells old)).told)
-      (quiet : AllQuiet (account (tells mid)).files) (stays : WellFormed (as_read (account (tells old)).files) → WellFormed (as_read (account (tells mid)).files)) where
+module _ {D : Type 0} (m : Ghosts D) (old : D) (limits : Limits) where
+  module _ (durable : Durable) (honest : IsHonest (m.tells old)) (denoted : Denotes (as_read (account (m.tells old)).files) durable) (mid : D) (same : (account (m.tells mid)).told ≡ (account (m.tells old)).told)
+      (quiet : AllQuiet (account (m.tells mid)).files) (stays : WellFormed (as_read (account (m.tells old)).files) → WellFormed (as_read (account (m.tells mid)).files)) where
     abbrev first : Broker
-    first = opened_from ids durable
+    first = opened_from limits.ids durable
 
     -- the moments of opening come before those of the run
-    opened_moments : (new : D) (replies : List Reply) (states : List Broker) → Within moment left_since old mid (LeavesEpoch (BeganQuiet (tells old)) (tells old)) → Within moment left_since mid new (LeavesBetween first replies states (tells mid))
-        → Within moment left_since old new (LeavesRun BeganQuiet durable first replies states (tells old))
-    opened_moments new replies states opening run = then_run moment left_since old mid new _ _ (weaker moment left_since old mid _ _ opening (opening_left BeganQuiet ids durable replies states (tells old) denoted)) run
-        (running_left BeganQuiet durable first replies states (tells old) (tells mid) honest same quiet stays)
+    opened_moments : (new : D) (replies : List Reply) (states : List Broker) → Within m old mid (OnceQuiet LeavesEpoch) → Within m mid new (LeavesBetween first replies states)
+        → Within m old new (LeavesOpenedRun first replies states)
+    opened_moments new replies states opening run = then_run m old mid new (LeavesOpenedRun first replies states) (LeavesBetween first replies states)
+        (weaker m old mid (OnceQuiet LeavesEpoch) (LeavesOpenedRun first replies states) opening
+        (λ c b. once_weaker LeavesEpoch (LeavesRun first replies states) (m.tells old) c b (opening_left limits.ids durable replies states (m.tells old) denoted c b)))
+        run
+        (λ c b left. once_since (LeavesRun first replies states) (m.tells old) c b (running_left first replies states (m.tells old) (m.tells mid) honest same quiet stays c b left))
 
     -- and so do those from the one on at which nothing is pending
-    late_moments : (new : D) (replies : List Reply) (states : List Broker) → WithinFrom moment left_since old mid (LeavesEpoch (Unit {0}) (tells old)) → Within moment left_since mid new (LeavesBetween first replies states (tells mid))
-        → WithinFrom moment left_since old new (LeavesRun AnyTime durable first replies states (tells old))
-    late_moments new replies states opening run = record {
-      first = opening.first;
-      after = opening.after;
-      until = omega (arith, opening.until, run.later);
-      each = λ c b left. ⊎_elim
-          (λ earlier. opening_left AnyTime ids durable replies states (tells old) denoted c b (opening.each c b earlier))
-          (λ now. running_left AnyTime durable first replies states (tells old) (tells mid) honest same quiet stays c b now)
-          (run.before opening.first c b opening.until left);
+    late_moments : (new : D) (replies : List Reply) (states : List Broker) → WithinFrom m AnyFile old mid LeavesEpoch → Within m mid new (LeavesBetween first replies states)
+        → WithinFrom m AnyFile old new (LeavesRun first replies states)
+    late_moments new replies states opening run =
+        let at = opening.at in
+        let one = opening.settled.step honest in
+        let reads : as_read (account (m.tells at)).files ≡ as_read (account (m.tells old)).files = settled_reads (account (m.tells old)).files (account (m.tells at)).files one.change in
+        let here = opening.settled.kept honest in
+        record {
+          at = at;
+          settled = opening.settled;
+          first = opening.first;
+          run = then_run m at mid new (LeavesRun first replies states) (LeavesBetween first replies states)
+              (weaker m at mid LeavesEpoch (LeavesRun first replies states) opening.run
+              (opening_left limits.ids durable replies states (m.tells at) (subst (λ (contents : Contents). Denotes contents durable) (sym reads) denoted)))
+              run
+              (running_left first replies states (m.tells at) (m.tells mid) here (same ∙ sym one.told) quiet (λ well. stays (subst WellFormed reads well)));
+        }
+
+    abbrev opened_serves : {lines : List (List ℕ)} {new : D} → Within m old mid (OnceQuiet LeavesEpoch) → Serves LeavesBetween m first lines mid new → Serves LeavesOpenedRun m first lines old new
+    opened_serves {lines} {new} opening s = record {
+      items = s.items;
+      replies = s.replies;
+      states = s.states;
+      read = s.read;
+      run = s.run;
+      moments = opened_moments new s.replies s.states opening s.moments;
+      kept = s.kept;
+      n = s.n;
+      last = s.last;
+      more = s.more;
+      bytes = s.bytes ∙ ap (λ (b : List ℕ). b ++ s.more) same;
+      told = s.told;
     }
 
-    opened_replies : (whole : List (List ℕ)) (behind : List ℕ) (rest_old rest_new : Option (List ℕ)) (new : D) (status : ℕ) → Within moment left_since old mid (LeavesEpoch (BeganQuiet (tells old)) (tells old))
-        → Replies LeavesBetween ⊥ moment left_since tells first whole behind rest_old rest_new mid new status
-        → Replies (LeavesRun BeganQuiet durable) unopened moment left_since tells first whole behind rest_old rest_new old new status
-    opened_replies whole behind rest_old rest_new new status opening r = let s = r.serves in record {
-      lines = r.lines;
-      which = r.which;
-      serves = record {
-        items = s.items;
-        replies = s.replies;
-        states = s.states;
-        read = s.read;
-        run = s.run;
-        moments = opened_moments new s.replies s.states opening s.moments;
-        kept = s.kept;
-        n = s.n;
-        last = s.last;
-        more = s.more;
-        bytes = s.bytes ∙ ap (λ (b : List ℕ). b ++ s.more) same;
-        told = s.told;
-      };
-      in_part = r.in_part;
-      all = r.all;
-      to_end = r.to_end;
-      to_place = r.to_place;
-      at_rest = r.at_rest;
-      stays = λ is. record { quiet = λ _. (r.stays is).quiet quiet; well = λ _ was. (r.stays is).well quiet (stays was) };
-      full = λ is. ⊎_elim (λ none. absurd none) (λ full. inr full) (r.full is);
+    opened_ends : {lines : List (List ℕ)} {new : D} (status : ℕ) (opening : Within m old mid (OnceQuiet LeavesEpoch)) (s : Serves LeavesBetween m first lines mid new) → Ends s status → Ends (opened_serves opening s) status
+    opened_ends status opening s ends = record {
+      in_part = ends.in_part;
+      all = ends.all;
+      at_rest = ends.at_rest;
+      stays = λ is. record { quiet = λ _. (ends.stays is).quiet quiet; well = λ _ was. (ends.stays is).well quiet (stays was) };
     }
 
   -- the state that the engine stands for
-  stands_opened : (mid : D) (engine : Engine) → OpensAt ids (tells old) (tells mid) engine → (durable : Durable) → Denotes (as_read (account (tells old)).files) durable → state_of engine ≡ opened_from ids durable
-  stands_opened mid engine opens durable denoted = opens.stands.stands ∙ (opens.opened.opened ∙ ap (opened_from ids) (one_denoted (as_read (account (tells old)).files) opens.opened.durable durable opens.opened.denoted denoted))
+  stands_opened : (mid : D) (engine : Engine) → OpensAt limits.ids (m.tells old) (m.tells mid) engine → (durable : Durable) → Denotes (as_read (account (m.tells old)).files) durable → state_of engine ≡ opened_from limits.ids durable
+  stands_opened mid engine opens durable denoted =
+      opens.stands.stands ∙ (opens.opened.opened ∙ ap (opened_from limits.ids) (one_denoted (as_read (account (m.tells old)).files) opens.opened.durable durable opens.opened.denoted denoted))
 
-  module _ (engine : Engine) (limit : ℕ) (rest_old rest_new : Option (List ℕ)) (mid new : D) (status : ℕ) (opens : IsHonest (tells old) → OpensAt ids (tells old) (tells mid) engine) (stays : Changes (tells old) (tells mid) OpensFiles)
-      (ran : Ran LeavesBetween ⊥ (IsHonest (tells mid)) moment left_since tells (state_of engine) limit rest_old rest_new mid new status) where
-    inner_replies : (durable : Durable) → IsHonest (tells old) → Denotes (as_read (account (tells old)).files) durable → Replies LeavesBetween ⊥ moment left_since tells (opened_from ids durable) ran.whole ran.behind rest_old rest_new mid new status
-    inner_replies durable honest denoted = subst (λ (first : Broker). Replies LeavesBetween ⊥ moment left_since tells first ran.whole ran.behind rest_old rest_new mid new status) (stands_opened mid engine (opens honest) durable denoted) (ran.replies (stays.kept honest))
+  module _ (engine : Engine) (input : Input) (mid new : D) (status : ℕ) (opens : IsHonest (m.tells old) → OpensAt limits.ids (m.tells old) (m.tells mid) engine) (stays : Changes (m.tells old) (m.tells mid) OpensFiles)
+      (ran : Ran m (state_of engine) input mid new status) where
+    -- what is owed of the run behind the opening, by the state that it begins with
+    abbrev Owed : Broker → Type 0
+    Owed first = (serves : Serves LeavesBetween m first ran.reading.lines mid new) × Ends serves status × (status ≡ code_of ended.LimitReached → StopsAtLimit serves)
 
-    pub opened_ran : Within moment left_since old mid (LeavesEpoch (BeganQuiet (tells old)) (tells old)) → WithinFrom moment left_since old mid (LeavesEpoch (Unit {0}) (tells old))
-        → RanOpened unopened moment left_since tells ids limit rest_old rest_new old new status
-    unfolding opened_replies inner_replies
+    owed : (durable : Durable) → IsHonest (m.tells old) → Denotes (as_read (account (m.tells old)).files) durable → Owed (opened_from limits.ids durable)
+    owed durable honest denoted =
+        let here = stays.kept honest in
+        subst Owed (stands_opened mid engine (opens honest) durable denoted) (ran.serves here, ran.ends here, ran.full here)
+
+    pub opened_ran : Within m old mid (OnceQuiet LeavesEpoch) → WithinFrom m AnyFile old mid LeavesEpoch → RanOpened m limits input old new status
     opened_ran opening once = record {
-      read = ran.read;
-      whole = ran.whole;
-      behind = ran.behind;
-      input = ran.input;
-      cut = ran.cut;
-      replies = λ durable honest denoted. opened_replies durable honest denoted mid (stays.step honest).told (opens honest).quiet (opens honest).well ran.whole ran.behind rest_old rest_new new status opening (inner_replies durable honest denoted);
+      reading = ran.reading;
+      serves = λ durable honest denoted. opened_serves durable honest denoted mid (stays.step honest).told (opens honest).quiet (opens honest).well opening (owed durable honest denoted).0;
+      ends = λ durable honest denoted.
+          let is = owed durable honest denoted in
+          opened_ends durable honest denoted mid (stays.step honest).told (opens honest).quiet (opens honest).well status opening is.0 is.1;
+      full = λ durable honest denoted is.
+          let o = owed durable honest denoted in
+          let stops = o.2 is in
+          inr (record { all = stops.all; full = stops.full });
       late = λ durable honest denoted other.
-          let serves = (inner_replies durable honest denoted).serves in
+          let serves = (owed durable honest denoted).0 in
           late_moments durable honest denoted mid (stays.step honest).told (opens honest).quiet (opens honest).well new serves.replies serves.states once serves.moments;
     }
 
@@ -158,61 +187,59 @@ module _ {D : Type 0} (moment : D → ℕ) (left_since : D → ℕ → Files →
   not_served fault.Spent is = ⊎_elim (λ a. omega (arith, a)) (λ other. ⊎_elim (λ b. omega (arith, b)) (λ c. omega (arith, c)) other) is
   not_served fault.Memory is = ⊎_elim (λ a. omega (arith, a)) (λ other. ⊎_elim (λ b. omega (arith, b)) (λ c. omega (arith, c)) other) is
 
-  not_past : (fault : Fault) → status_of_fault fault ≡ 7 → ⊥
-  not_past fault is = not_served fault (inr (inr is))
-
   is_spent : (cause : Fault) → status_of_fault cause ≡ 8 → cause ≡ fault.Spent
   is_spent fault.Failed is = absurd (omega (arith, is))
   is_spent (fault.Damaged damage) is = absurd (omega (arith, is))
   is_spent fault.Spent is = refl
   is_spent fault.Memory is = absurd (omega (arith, is))
 
-  opening_failed : (cause : Fault) → IsAnyBut (2 ∷ 3 ∷ 6 ∷ 8 ∷ []) (status_of_fault cause) → ⊥
+  opening_failed : (cause : Fault) → IsAnyBut (ended.Damaged ∷ ended.DiskFailed ∷ ended.OutOfMemory ∷ ended.LimitReached ∷ []) (status_of_fault cause) → ⊥
   opening_failed fault.Failed other = other.1.0 refl
   opening_failed (fault.Damaged damage) other = other.0 refl
   opening_failed fault.Spent other = other.1.1.1.0 refl
   opening_failed fault.Memory other = other.1.1.0 refl
 
   -- the broker wasn't opened
-  pub unopened_ran : (limit : ℕ) (rest : Option (List ℕ)) (new : D) (cause : Fault) → (IsHonest (tells old) → cause ≡ fault.Spent → unopened) → Changes (tells old) (tells new) OpensFiles
-      → Within moment left_since old new (LeavesEpoch (BeganQuiet (tells old)) (tells old))
-      → RanOpened unopened moment left_since tells ids limit rest rest old new (status_of_fault cause)
-  unopened_ran limit rest new cause spent stays opening = record {
-    read = [];
-    whole = [];
-    behind = [];
-    input = record {
+  pub unopened_ran : (rest : Option (List ℕ)) (new : D) (cause : Fault) → (IsHonest (m.tells old) → cause ≡ fault.Spent → IsUnopened limits.epochs (m.tells old) (m.tells new)) → Changes (m.tells old) (m.tells new) OpensFiles
+      → Within m old new (OnceQuiet LeavesEpoch)
+      → RanOpened m limits (record { old = rest; new = rest; limit = limits.input }) old new (status_of_fault cause)
+  unopened_ran rest new cause spent stays opening = record {
+    reading = record {
+      read = [];
       source = takes_nothing rest;
       within = λ _. omega arith;
-      past = λ is. absurd (not_past cause is);
+      past = λ is. absurd (not_served cause (inr (inr is)));
       at_end = λ is. absurd (not_served cause (inl is));
-    };
-    cut = subst (λ (l : List ℕ). IsCut l [] []) (sym (take_all limit [] (omega arith))) (record { joined = refl; whole_lines = tt; last_line = tt });
-    replies = λ durable honest denoted. record {
+      whole = [];
+      behind = [];
+      cut = subst (λ (l : List ℕ). IsCut l [] []) (sym (take_all limits.input [] (omega arith))) (record { joined = refl; whole_lines = tt; last_line = tt });
       lines = [];
       which = inl refl;
-      serves = record {
-        items = [];
-        replies = [];
-        states = [];
-        read = tt;
-        run = tt;
-        moments = weaker moment left_since old new _ _ opening (opening_left BeganQuiet ids durable [] [] (tells old) denoted);
-        kept = stays.kept honest;
-        n = 0;
-        last = inl refl;
-        more = [];
-        bytes = (stays.step honest).told ∙ sym (append-nil (account (tells old)).told);
-        told = record { part = []; within = omega arith; bytes = refl; begun = refl };
-      };
+      to_end = λ is. absurd (not_served cause (inl is));
+      to_place = λ _. refl;
+    };
+    serves = λ durable honest denoted. record {
+      items = [];
+      replies = [];
+      states = [];
+      read = tt;
+      run = tt;
+      moments = weaker m old new (OnceQuiet LeavesEpoch) (LeavesOpenedRun (opened_from limits.ids durable) [] []) opening
+          (λ c b. once_weaker LeavesEpoch (LeavesRun (opened_from limits.ids durable) [] []) (m.tells old) c b (opening_left limits.ids durable [] [] (m.tells old) denoted c b));
+      kept = stays.kept honest;
+      n = 0;
+      last = inl refl;
+      more = [];
+      bytes = (stays.step honest).told ∙ sym (append-nil (account (m.tells old)).told);
+      told = record { part = []; within = omega arith; bytes = refl; begun = refl };
+    };
+    ends = λ durable honest denoted. record {
       in_part = λ _. refl;
       all = λ is. absurd (not_served cause is);
-      to_end = λ is. absurd (not_served cause (inl is));
-      to_place = λ is. absurd (not_served cause (inr is));
       at_rest = λ is. absurd (not_served cause is);
       stays = λ is. absurd (not_served cause is);
-      full = λ is. inl (spent honest (is_spent cause is));
     };
+    full = λ durable honest denoted is. inl (spent honest (is_spent cause is));
     late = λ durable honest denoted other. absurd (opening_failed cause other);
   }
 
@@ -227,66 +254,125 @@ read_left files sound f = subst (λ (left : Option (List ℕ)). IsLeftAt (get fi
     by None sound = tt
     by (Some t) sound = record { no_shorter = (sound t refl).no_shorter; no_longer = (sound t refl).no_longer; as_read = λ i lt outside. refl }
 
--- at status 0 an input that was told is served to its end
-pub input_served : {D : Type 0} (unopened : Type 0) (moment : D → ℕ) (left_since : D → ℕ → Files → List ℕ → Type 0) (tells : D → Option Account) (ids limit : ℕ) (rest_old rest_new : Option (List ℕ)) (old new : D)
-    → RanOpened unopened moment left_since tells ids limit rest_old rest_new old new 0 → IsHonest (tells old) → (durable : Durable) → Denotes (as_read (account (tells old)).files) durable → (input : List ℕ) → rest_old ≡ Some input
-    → (rest_new ≡ Some []) × ServesOpened ids input (account (tells old)) (account (tells new))
-input_served unopened moment left_since tells ids limit rest_old rest_new old new ran honest durable denoted input is =
-    let end : rest_new ≡ Some [] = ran.input.at_end refl input is in
-    let given = ran.input.source input is in
+-- an input that was told is served to its end
+pub input_served : {D : Type 0} (m : Ghosts D) (limits : Limits) (input : Input) (old new : D) → RanOpened m limits input old new 0 → IsHonest (m.tells old) → (durable : Durable) → Denotes (as_read (account (m.tells old)).files) durable
+    → (bytes : List ℕ) → input.old ≡ Some bytes → (input.new ≡ Some []) × ServesOpened limits.ids bytes (account (m.tells old)) (account (m.tells new))
+input_served m limits input old new ran honest durable denoted bytes is =
+    let reading = ran.reading in
+    let end : input.new ≡ Some [] = reading.at_end refl bytes is in
+    let given = reading.source bytes is in
     let none : given.0 ≡ [] = some_same given.0 [] (sym given.1 ∙ end) in
-    let whole_input : take limit ran.read ≡ input = take_all limit ran.read (ran.input.within (λ e. omega (arith, e))) ∙ (sym (append-nil ran.read) ∙ (ap (λ (ys : List ℕ). ran.read ++ ys) (sym none) ∙ sym given.2)) in
-    let r = ran.replies durable honest denoted in
-    let s = r.serves in
-    let all = r.all (inl refl) in
-    let sizes = run_lengths (opened_from ids durable) s.items s.replies s.states s.run in
-    let to_end = r.to_end refl in (
+    let whole_input : take input.limit reading.read ≡ bytes = take_all input.limit reading.read (reading.within (λ e. omega (arith, e))) ∙ (sym (append-nil reading.read) ∙ (ap (λ (ys : List ℕ). reading.read ++ ys) (sym none) ∙ sym given.2)) in
+    let s = ran.serves durable honest denoted in
+    let e = ran.ends durable honest denoted in
+    let all = e.all (inl refl) in
+    let sizes = run_lengths (opened_from limits.ids durable) s.items s.replies s.states s.run in
+    let to_end = reading.to_end refl in (
       end,
       record {
         durable = durable;
         denoted = denoted;
         serves = record {
-          whole = ran.whole;
-          behind = ran.behind;
-          cut = subst (λ (text : List ℕ). IsCut text ran.whole ran.behind) whole_input ran.cut;
+          whole = reading.whole;
+          behind = reading.behind;
+          cut = subst (λ (text : List ℕ). IsCut text reading.whole reading.behind) whole_input reading.cut;
           items = s.items;
           replies = s.replies;
           states = s.states;
           read = subst (λ (lines : List (List ℕ)). ReadAs lines s.items) to_end s.read;
           all = all.0 ∙ ap length to_end;
           run = s.run;
-          told = s.bytes ∙ ap (λ (b : List ℕ). (account (tells old)).told ++ b)
-              (s.told.bytes ∙ (ap (λ (part : List ℕ). reply_bytes (take s.n s.replies) ++ part) (r.in_part (λ e. omega (arith, e))) ∙ (append-nil (reply_bytes (take s.n s.replies)) ∙ ap reply_bytes (take_all s.n s.replies (omega (arith, all.0, all.1, sizes.1))))));
-          denoted = r.at_rest (inl refl) (reads (account (tells new)).files) (read_left (account (tells new)).files s.kept.sound);
+          told = s.bytes ∙ ap (λ (b : List ℕ). (account (m.tells old)).told ++ b)
+              (s.told.bytes ∙ (ap (λ (part : List ℕ). reply_bytes (take s.n s.replies) ++ part) (e.in_part (λ e. omega (arith, e))) ∙ (append-nil (reply_bytes (take s.n s.replies)) ∙ ap reply_bytes (take_all s.n s.replies (omega (arith, all.0, all.1, sizes.1))))));
+          denoted = e.at_rest (inl refl) (reads (account (m.tells new)).files) (read_left (account (m.tells new)).files s.kept.sound);
         };
-        well = (r.stays (inl refl)).well;
+        well = (e.stays (inl refl)).well;
       },
     )
 
--- where nothing fails and no limit is met a run ends early only for want of memory
-module _ {D : Type 0} (moment : D → ℕ) (left_since : D → ℕ → Files → List ℕ → Type 0) (tells : D → Option Account) (ids limit : ℕ) (rest_old rest_new : Option (List ℕ)) (old new : D) (epochs : ℕ)
-    (site_old site_new : FaultCounts) (source_old source_new : ℕ) (spared : IsSpared tells rest_old limit old new site_old site_new source_old source_new)
-    (well : WellFormed (as_read (account (tells old)).files)) (never : HasNoEpoch epochs (account (tells old)).files → ⊥) where
-  denotes_well : Denotes (as_read (account (tells old)).files) (durable_part well.state)
-  denotes_well = record { state = well.state; folds = well.folds; is = refl }
+-- a line that stands behind the first ones stands there too where more lines follow
+drop_more : (n : ℕ) (lines more others : List (List ℕ)) (line : List ℕ) → drop n lines ≡ line ∷ others → drop n (lines ++ more) ≡ line ∷ (others ++ more)
+drop_more zero lines more others line is = ap (λ (ls : List (List ℕ)). ls ++ more) is
+drop_more (suc n) [] more others line is = cc
+drop_more (suc n) (l ∷ lines) more others line is = drop_more n lines more others line is
 
-  pub completes : (stop : Stop) → StopCounts stop site_old site_new source_old source_new → (IsDamagedStop stop → AreIllFormed (tells old))
-      → RanOpened (IsUnopened epochs (tells old) (tells new)) moment left_since tells ids limit rest_old rest_new old new (status_of_stop stop) → status_of_stop stop ≡ 6
-  completes (Site (site.Disk fault.Failed)) counts damaged ran = absurd (spared.disk counts.0.disk)
-  completes (Site (site.Disk (fault.Damaged damage))) counts damaged ran = absurd (damaged tt spared.honest well)
+limit_longer : {D : Type 0} (m : Ghosts D) (first : Broker) (lines more : List (List ℕ)) (new : D) → ComesToLimit m first lines new → ComesToLimit m first (lines ++ more) new
+limit_longer m first lines more new comes = record {
+  items = comes.items;
+  replies = comes.replies;
+  states = comes.states;
+  read = read_more lines more comes.items comes.read;
+  run = comes.run;
+  full = record {
+    line = comes.full.line;
+    others = comes.full.others ++ more;
+    next = drop_more (length comes.items) lines more comes.full.others comes.full.line comes.full.next;
+    full = comes.full.full;
+  };
+}
+
+-- the lines of a text begin with those of its front
+lines_longer : (whole more : List (List ℕ)) (behind : List ℕ) → lines_of (whole ++ more) behind ≡ whole ++ lines_of more behind
+lines_longer whole more [] = refl
+lines_longer whole more (byte ∷ behind) = append_assoc whole more ((byte ∷ behind) ∷ [])
+
+-- where nothing fails and no limit is met a run ends early only for want of memory
+module _ {D : Type 0} (m : Ghosts D) (limits : Limits) (input : Input) (old new : D) (f : Faults) (spared : IsSpared m limits input old new f) where
+  abbrev durable : Durable
+  durable = durable_part spared.well.state
+
+  abbrev opened : Broker
+  opened = opened_from limits.ids durable
+
+  denotes_well : Denotes (as_read (account (m.tells old)).files) durable
+  denotes_well = record { state = spared.well.state; folds = spared.well.folds; is = refl }
+
+  -- no line of a front of the input is one that meets a limit
+  not_full : (status : ℕ) (reading : ReadsInput input status) → (status ≡ 7 → ⊥) → ComesToLimit m opened reading.lines new → ⊥
+  not_full status reading short comes =
+      let given = reading.source spared.bytes spared.told in
+      let all_read : take input.limit reading.read ≡ reading.read = take_all input.limit reading.read (reading.within short) in
+      ⊎_elim
+      (λ is.
+      let more = has_cut (reading.behind ++ given.0) in
+      let joined : spared.bytes ≡ ended reading.whole ++ (reading.behind ++ given.0)
+      = given.2 ∙ (ap (λ (l : List ℕ). l ++ given.0) (sym all_read ∙ reading.cut.joined) ∙ append_assoc (ended reading.whole) reading.behind given.0) in
+      spared.room durable denotes_well (reading.whole ++ more.whole) more.behind
+      (subst (λ (text : List ℕ). IsCut text (reading.whole ++ more.whole) more.behind) (sym joined) (cut_then reading.whole (reading.behind ++ given.0) more.whole more.behind reading.cut.whole_lines more.cut))
+      (subst (λ (lines : List (List ℕ)). ComesToLimit m opened lines new) (sym (lines_longer reading.whole more.whole more.behind))
+      (limit_longer m opened reading.whole (lines_of more.whole more.behind) new (subst (λ (lines : List (List ℕ)). ComesToLimit m opened lines new) is comes))))
+      (λ is.
+      let none : given.0 ≡ [] = some_same given.0 [] (sym given.1 ∙ is.1 spared.bytes spared.told) in
+      let same : take input.limit reading.read ≡ spared.bytes = all_read ∙ (sym (append-nil reading.read) ∙ (ap (λ (ys : List ℕ). reading.read ++ ys) (sym none) ∙ sym given.2)) in
+      spared.room durable denotes_well reading.whole reading.behind (subst (λ (text : List ℕ). IsCut text reading.whole reading.behind) same reading.cut)
+      (subst (λ (lines : List (List ℕ)). ComesToLimit m opened lines new) is.0 comes))
+      reading.which
+
+  pub completes : (stop : Stop) → StopCounts stop f → (IsDamagedStop stop → AreIllFormed (m.tells old)) → RanOpened m limits input old new (status_of_stop stop) → status_of_stop stop ≡ 6
+  completes (Site (site.Disk fault.Failed)) counts damaged ran = absurd (spared.faults.disk counts.0.disk)
+  completes (Site (site.Disk (fault.Damaged damage))) counts damaged ran = absurd (damaged tt spared.honest spared.well)
   completes (Site (site.Disk fault.Spent)) counts damaged ran =
-      let r = ran.replies (durable_part well.state) spared.honest denotes_well in
-      absurd (⊎_elim (λ unopened. never unopened.none) (λ full. spared.room (last_state (opened_from ids (durable_part well.state)) r.serves.states) full.0 full.3) (r.full refl))
+      let r = ran.serves durable spared.honest denotes_well in
+      absurd (⊎_elim (λ unopened. spared.epoch unopened.none)
+      (λ stops. not_full 8 ran.reading (λ is. omega (arith, is)) (record {
+        items = r.items;
+        replies = r.replies;
+        states = r.states;
+        read = r.read;
+        run = r.run;
+        full = subst (λ (n : ℕ). IsFullBehind m (last_state opened r.states) (drop n ran.reading.lines) new) (sym stops.all) stops.full;
+      }))
+      (ran.full durable spared.honest denotes_well refl))
   completes (Site (site.Disk fault.Memory)) counts damaged ran = refl
-  completes (Site site.Sink) counts damaged ran = absurd (spared.output counts.0.output)
-  completes (Source reading.Failed) counts damaged ran = absurd (spared.source counts.1)
+  completes (Site site.Sink) counts damaged ran = absurd (spared.faults.output counts.0.output)
+  completes (Source reading.Failed) counts damaged ran = absurd (spared.faults.source counts.1)
   completes (Source reading.TooLong) counts damaged ran =
-      let given = ran.input.source spared.input spared.told in
-      absurd (omega (arith, ran.input.past refl, spared.short, ap length given.2, length-append ran.read given.0))
+      let given = ran.reading.source spared.bytes spared.told in
+      absurd (omega (arith, ran.reading.past refl, spared.short, ap length given.2, length-append ran.reading.read given.0))
   completes (Source reading.Memory) counts damaged ran = refl
 
 -- an opening that failed, but for Failed, Damaged and Memory, found a state
-pub failed_denoted : {D : Type 0} (tells : D → Option Account) (old : D) (epochs : ℕ) (cause : Fault) → IsSpentAt epochs (tells old) cause → IsAnyBut (2 ∷ 3 ∷ 6 ∷ []) (status_of_fault cause) → IsHonest (tells old)
+pub failed_denoted : {D : Type 0} (tells : D → Option Account) (old : D) (epochs : ℕ) (cause : Fault) → IsSpentAt epochs (tells old) cause → IsAnyBut (ended.Damaged ∷ ended.DiskFailed ∷ ended.OutOfMemory ∷ []) (status_of_fault cause) → IsHonest (tells old)
     → (durable : Durable) × Denotes (as_read (account (tells old)).files) durable
 failed_denoted tells old epochs fault.Failed spent other honest = absurd (other.1.0 refl)
 failed_denoted tells old epochs (fault.Damaged damage) spent other honest = absurd (other.0 refl)

@@ -1,5 +1,6 @@
 -- What answering one line does.
 use Rattle.std.specs.Prelude.{◌≡◌, ℕ, List, [], ◌∷◌, Option, Result, MatchResult}
+use Rattle.pg_disk.specs.declared.disk.Disk.{Ghosts}
 use Rattle.pg_disk.specs.declared.fault.SiteFault.{SiteFault}
 use Rattle.pg_disk.specs.declared.fault.SiteFault.TheVariants.{Disk, Sink}
 use Rattle.pg_disk.specs.Account.{Account}
@@ -15,10 +16,11 @@ IsPartOf (Disk fault) part = part ≡ []
 IsPartOf Sink part = Unit {0}
 
 -- At Ok the line was served. At Err it wasn't begun, or was interrupted.
-abbrev pub Answers : {D : Type 0} (moment : D → ℕ) (left_since : D → ℕ → Files → List ℕ → Type 0) (tells : D → Option Account) (first : Broker) (line : List ℕ) (old new : D) (result : Result Engine SiteFault) → Type 0
-Answers moment left_since tells first line old new result =
-    MatchResult result (λ engine. ServesAll moment left_since tells first (line ∷ []) old new engine)
-    (λ fault. (serves : Serves LeavesBetween moment left_since tells first (line ∷ []) old new) × IsPartOf fault serves.told.part)
+abbrev pub Answers : {D : Type 0} (m : Ghosts D) (first : Broker) (line : List ℕ) (old new : D)
+    (result : Result Engine SiteFault) → Type 0
+Answers m first line old new result =
+    MatchResult result (λ engine. ServesAll m first (line ∷ []) old new engine)
+    (λ fault. (serves : Serves LeavesBetween m first (line ∷ []) old new) × IsPartOf fault serves.told.part)
 
 -- a file is damaged
 abbrev pub IsDamagedSite : SiteFault → Type 0

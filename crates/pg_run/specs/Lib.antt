@@ -2,3 +2,4 @@ pub mod Answered
 pub mod ProgramWords
 pub mod Ran
 pub mod Served
+pub mod Statuses

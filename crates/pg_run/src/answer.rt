@@ -1,7 +1,8 @@
 // One line: it is executed, and its reply is told.
 ghost use Rattle.std.specs.Prelude.{◌≡◌, ◌⊎◌, Option, Some, is_ok, IsErr, IfOk, IfErr, IsErrOf};
+ghost use Rattle.pg_disk.specs.Sites.{Steps};
 ghost use Rattle.pg_disk.specs.Account.{account, IsHonest};
-ghost use Rattle.pg_disk.specs.Calls.{Changes, Emits};
+ghost use Rattle.pg_disk.specs.Calls.{Emits};
 ghost use Rattle.pg_disk.specs.Counts.{CountsFault, CountsSiteFault};
 ghost use Rattle.pg_disk.specs.Image.{LeavesPrefix};
 ghost use Rattle.pg_disk.specs.Moments.{Within};
@@ -26,11 +27,12 @@ pub fn answer<S: Site>(
     line: &[u8],
 ) -> Result<Engine, SiteFault>
     requires { IsHonest (S.tells site.old) → Owns engine (account (S.tells site.old)).files }
-    ensures answers { IsHonest (S.tells site.old) → Answers S.moment S.left_since S.tells (state_of engine) line.now site.old site.new result }
+    ensures answers { IsHonest (S.tells site.old) → Answers S.Disk (state_of engine) line.now site.old site.new result }
     ensures back { IsHonest (S.tells site.new) → IsHonest (S.tells site.old) }
     ensures never_damaged { IfErr result (λ fault. IsDamagedSite fault → ⊥) }
     ensures untouched { IsErrOf result (SiteFault.Disk Fault.Spent) → site.new ≡ site.old }
-    ensures limit { IsErrOf result (SiteFault.Disk Fault.Spent) → (command : Command) × ReadsAs line.now (Some command) × MeetsLimit engine command }
+    ensures limit { IsErrOf result (SiteFault.Disk Fault.Spent) → (command : Command) × ReadsAs line.now (Some command)
+        × MeetsLimit engine command }
     ensures cause { CountsSiteFault (S.faults site.old) (S.faults site.new) result }
 {
     let (engine, reply) = exec_line(alloc, engine, site, line)?;
@@ -49,12 +51,14 @@ fn exec_line<D: Disk>(
 ) -> Result<(Engine, Reply), Fault>
     requires { IsHonest (D.tells disk.old) → Owns engine (account (D.tells disk.old)).files }
     ensures executes { IsHonest (D.tells disk.old) → (IsErr result × (disk.new ≡ disk.old))
-        ⊎ ((item : Option Command) × ReadsAs line.now item × Executes D.moment D.left_since D.tells (state_of engine) item disk.old disk.new result) }
+        ⊎ ((item : Option Command) × ReadsAs line.now item
+        × Executes D.Disk (state_of engine) item disk.old disk.new result) }
     ensures built { IfOk result (λ done. IsBuilt done.1) }
     ensures back { IsHonest (D.tells disk.new) → IsHonest (D.tells disk.old) }
     ensures never_damaged { IfErr result (λ fault. IsDamaged fault → ⊥) }
     ensures untouched { IsErrOf result Fault.Spent → disk.new ≡ disk.old }
-    ensures limit { IsErrOf result Fault.Spent → (command : Command) × ReadsAs line.now (Some command) × MeetsLimit engine command }
+    ensures limit { IsErrOf result Fault.Spent → (command : Command) × ReadsAs line.now (Some command)
+        × MeetsLimit engine command }
     ensures cause { CountsFault (D.faults disk.old) (D.faults disk.new) result }
 {
     match parse_line(alloc, line)? {
@@ -65,8 +69,8 @@ fn exec_line<D: Disk>(
 
 // Tells a reply's line, all at once.
 fn tell<S: Site>(site: &mut S, line: &[u8]) -> Result<(), SiteFault>
-    ensures told { Changes (S.tells site.old) (S.tells site.new) (Emits line.now (is_ok result)) }
-    ensures any_moment { Within S.moment S.left_since site.old site.new (LeavesPrefix line.now (S.tells site.old)) }
+    ensures told { Steps S.Disk site.old site.new (Emits line.now (is_ok result)) }
+    ensures any_moment { Within S.Disk site.old site.new (LeavesPrefix line.now) }
     ensures only_sink { IfErr result (λ fault. fault ≡ SiteFault.Sink) }
     ensures cause { CountsSiteFault (S.faults site.old) (S.faults site.new) result }
 {

@@ -5,7 +5,9 @@ mod answer;
 mod program;
 mod run;
 mod serving;
+mod status;
 
 pub use pg_msg::{LIMITS, Limits};
 pub use program::pagebroker;
 pub use serving::serve;
+pub use status::Status;

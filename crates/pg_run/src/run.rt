@@ -2,8 +2,8 @@
 ghost use Rattle.std.specs.Prelude.{◌≡◌, IfErr};
 ghost use Rattle.pg_disk.specs.Account.{account, IsHonest};
 ghost use Rattle.pg_engine.specs.Executed.{Owns, state_of};
-ghost use Rattle.pg_run.specs.Ran.{Ran, status_of, CountsStop, IsDamagedStop};
-ghost use Rattle.pg_run.specs.Served.{LeavesBetween};
+ghost use Rattle.pg_run.specs.Ran.{Ran, input_of};
+ghost use Rattle.pg_run.specs.Statuses.{CountsStop, IsDamagedStop, faults_of, status_of};
 
 use crate::answer::answer;
 use pg_disk::{Fault, Site, SiteFault, Source};
@@ -76,10 +76,11 @@ pub fn answer_lines<S: Site, R: Source>(
     limit: u64,
 ) -> Result<(), Stop>
     requires { IsHonest (S.tells site.old) → Owns engine (account (S.tells site.old)).files }
-    ensures ran { Ran LeavesBetween ⊥ (IsHonest (S.tells site.old)) S.moment S.left_since S.tells (state_of engine) limit (R.rest source.old) (R.rest source.new) site.old site.new (status_of result) }
+    ensures ran { Ran S.Disk (state_of engine) (input_of R.Source source.old source.new limit)
+        site.old site.new (status_of result) }
     ensures back { IsHonest (S.tells site.new) → IsHonest (S.tells site.old) }
     ensures never_damaged { IfErr result (λ stop. IsDamagedStop stop → ⊥) }
-    ensures cause { CountsStop (S.faults site.old) (S.faults site.new) (R.faults source.old) (R.faults source.new) result }
+    ensures cause { CountsStop (faults_of S.Disk R.Source site.old site.new source.old source.new) result }
 {
     let mut engine = engine;
     let mut reader = LineReader::new(alloc, limit)?;

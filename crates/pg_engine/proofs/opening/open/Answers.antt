@@ -1,14 +1,13 @@
-use Rattle.pg_recover.specs.Recovered.{BeganQuiet}
 use Rattle.pg_engine.proofs.OpeningLemmas.{epoch_from, epoch_moments, opened_at}
 use Rattle.pg_engine.proofs.opening.open.Goals as goal
 
 pub returns-in_err-parts-clause-any_moment : goal.returns-in_err-parts-clause-any_moment
 returns-in_err-parts-clause-any_moment g c =
-    epoch_moments g.D.Disk.moment g.D.Disk.left_since c.args.disk.now c.recover.new.disk (BeganQuiet (g.D.Disk.tells c.args.disk.now)) (g.D.Disk.tells c.args.disk.now) c.recover.ensures.any_moment
+    epoch_moments g.D.Disk c.args.disk.now c.recover.new.disk c.recover.ensures.any_moment
 
 pub returns-in_err-new-clause-any_moment : goal.returns-in_err-new-clause-any_moment
 returns-in_err-new-clause-any_moment g c =
-    epoch_moments g.D.Disk.moment g.D.Disk.left_since c.args.disk.now c.recover.new.disk (BeganQuiet (g.D.Disk.tells c.args.disk.now)) (g.D.Disk.tells c.args.disk.now) c.recover.ensures.any_moment
+    epoch_moments g.D.Disk c.args.disk.now c.recover.new.disk c.recover.ensures.any_moment
 
 pub returns-clause-opens : goal.returns-clause-opens
 returns-clause-opens g c =
@@ -16,8 +15,8 @@ returns-clause-opens g c =
 
 pub returns-clause-any_moment : goal.returns-clause-any_moment
 returns-clause-any_moment g c =
-    epoch_moments g.D.Disk.moment g.D.Disk.left_since c.args.disk.now c.recover.new.disk (BeganQuiet (g.D.Disk.tells c.args.disk.now)) (g.D.Disk.tells c.args.disk.now) c.recover.ensures.any_moment
+    epoch_moments g.D.Disk c.args.disk.now c.recover.new.disk c.recover.ensures.any_moment
 
 pub returns-clause-once_quiet : goal.returns-clause-once_quiet
 returns-clause-once_quiet g c =
-    epoch_from g.D.Disk.moment g.D.Disk.left_since c.args.disk.now c.recover.new.disk (Unit {0}) (g.D.Disk.tells c.args.disk.now) c.in_ok-parts.ensures.once_quiet
+    epoch_from g.D.Disk c.args.disk.now c.recover.new.disk c.in_ok-parts.ensures.once_quiet

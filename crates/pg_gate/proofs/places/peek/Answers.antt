@@ -33,7 +33,7 @@ pub returns-in_err-end-clause-taken_err : goal.returns-in_err-end-clause-taken_e
 returns-in_err-end-clause-taken_err g c = none_within c.from_residual.result c.args.file (g.D.Disk.tells c.args.disk.now) (g.D.Disk.tells c.length.new.self) c.length.ensures.same
 
 pub returns-in_err-end-clause-any_moment : goal.returns-in_err-end-clause-any_moment
-returns-in_err-end-clause-any_moment g c = one_read g.D.Disk.moment g.D.Disk.left_since g.D.Disk.tells c.args.disk.now c.length.new.self (g.met.D.Disk.only_now c.args.disk.now) c.length.ensures.time
+returns-in_err-end-clause-any_moment g c = one_read g.D.Disk c.args.disk.now c.length.new.self (g.met.D.Disk.only_now c.args.disk.now) c.length.ensures.time
 
 pub returns-in_err-end-clause-damaged : goal.returns-in_err-end-clause-damaged
 returns-in_err-end-clause-damaged g c =
@@ -57,7 +57,7 @@ pub returns-then-end-le1-clause-taken : goal.returns-then-end-le1-clause-taken
 returns-then-end-le1-clause-taken g c = none_read c.args.file (g.D.Disk.tells c.args.disk.now) (g.D.Disk.tells c.length.new.self) c.new.result.items c.new.ensures.items c.length.ensures.same
 
 pub returns-then-end-le1-clause-any_moment : goal.returns-then-end-le1-clause-any_moment
-returns-then-end-le1-clause-any_moment g c = one_read g.D.Disk.moment g.D.Disk.left_since g.D.Disk.tells c.args.disk.now c.length.new.self (g.met.D.Disk.only_now c.args.disk.now) c.length.ensures.time
+returns-then-end-le1-clause-any_moment g c = one_read g.D.Disk c.args.disk.now c.length.new.self (g.met.D.Disk.only_now c.args.disk.now) c.length.ensures.time
 
 pub returns-in_err-spans-clause-same : goal.returns-in_err-spans-clause-same
 returns-in_err-spans-clause-same g c = (
@@ -69,7 +69,7 @@ pub returns-in_err-spans-clause-taken_err : goal.returns-in_err-spans-clause-tak
 returns-in_err-spans-clause-taken_err g c = within_after c.args.file (g.D.Disk.tells c.args.disk.now) (g.D.Disk.tells c.length.new.self) c.in_ok-end.end c.length.ensures.same c.in_ok-end.ensures.length c.from_residual-in_err-spans.result (g.D.Disk.tells c.walk.new.disk) c.in_err-spans.ensures.taken_err
 
 pub returns-in_err-spans-clause-any_moment : goal.returns-in_err-spans-clause-any_moment
-returns-in_err-spans-clause-any_moment g c = run_reads g.D.Disk.moment g.D.Disk.left_since g.D.Disk.tells c.args.disk.now c.length.new.self c.walk.new.disk 0 c.length.ensures.same (one_read g.D.Disk.moment g.D.Disk.left_since g.D.Disk.tells c.args.disk.now c.length.new.self (g.met.D.Disk.only_now c.args.disk.now) c.length.ensures.time) c.walk.ensures.any_moment
+returns-in_err-spans-clause-any_moment g c = run_reads g.D.Disk c.args.disk.now c.length.new.self c.walk.new.disk 0 c.length.ensures.same (one_read g.D.Disk c.args.disk.now c.length.new.self (g.met.D.Disk.only_now c.args.disk.now) c.length.ensures.time) c.walk.ensures.any_moment
 
 pub returns-in_err-spans-clause-damaged : goal.returns-in_err-spans-clause-damaged
 returns-in_err-spans-clause-damaged g c =
@@ -88,4 +88,4 @@ returns-clause-same g c = (
 )
 
 pub returns-clause-any_moment : goal.returns-clause-any_moment
-returns-clause-any_moment g c = run_reads g.D.Disk.moment g.D.Disk.left_since g.D.Disk.tells c.args.disk.now c.length.new.self c.walk.new.disk 0 c.length.ensures.same (one_read g.D.Disk.moment g.D.Disk.left_since g.D.Disk.tells c.args.disk.now c.length.new.self (g.met.D.Disk.only_now c.args.disk.now) c.length.ensures.time) c.walk.ensures.any_moment
+returns-clause-any_moment g c = run_reads g.D.Disk c.args.disk.now c.length.new.self c.walk.new.disk 0 c.length.ensures.same (one_read g.D.Disk c.args.disk.now c.length.new.self (g.met.D.Disk.only_now c.args.disk.now) c.length.ensures.time) c.walk.ensures.any_moment

@@ -6,7 +6,7 @@ use Rattle.pg_disk.specs.declared.file_id.FileId.{FileId}
 use Rattle.pg_disk.specs.declared.file_id.Kind.TheVariants.{Journal as OfJournal}
 use Rattle.pg_disk.specs.Account.{account}
 use Rattle.pg_gate.proofs.Reading.{no_reads, reads_then, run_reads, still_there}
-use Rattle.pg_disk.proofs.Runs.{started}
+use Rattle.pg_disk.proofs.Composing.{started}
 use Rattle.pg_journal.proofs.Peeking.{IsPeekedTo, none_peeked, last_there, was_cut, still_peeked, now_found, last_kind}
 use Rattle.pg_journal.proofs.Cuts.{cut_generation}
 use Rattle.pg_journal.proofs.backwards.peek_back.Goals as goal
@@ -16,7 +16,7 @@ generations-init g c = record {
   kinds = c.requires.kinds;
   count = 0;
   same = no_reads (g.D.Disk.tells c.args.disk.now);
-  run = started g.D.Disk.moment g.D.Disk.left_since c.args.disk.now _ (g.met.D.Disk.only_now c.args.disk.now);
+  run = started g.D.Disk c.args.disk.now _ (g.met.D.Disk.only_now c.args.disk.now);
   faults = refl;
   so_far = λ honest. none_peeked c.args.generations.items (account (g.D.Disk.tells c.args.disk.now)).files (c.requires.listed honest);
 }
@@ -56,7 +56,7 @@ generations-preserved g c = record {
   kinds = (All-pop (λ (file : FileId). file.kind ≡ OfJournal) _ _ _ c.pop.ensures.items c.generations.invariant.kinds).0;
   count = c.generations.invariant.count + c.peek.ensures.same.0;
   same = reads_then (g.D.Disk.tells c.args.disk.now) (g.D.Disk.tells c.generations.disk) (g.D.Disk.tells c.peek.new.disk) c.generations.invariant.count c.peek.ensures.same.0 c.generations.invariant.same c.peek.ensures.same.1;
-  run = run_reads g.D.Disk.moment g.D.Disk.left_since g.D.Disk.tells c.args.disk.now c.generations.disk c.peek.new.disk c.generations.invariant.count c.generations.invariant.same c.generations.invariant.run c.peek.ensures.any_moment;
+  run = run_reads g.D.Disk c.args.disk.now c.generations.disk c.peek.new.disk c.generations.invariant.count c.generations.invariant.same c.generations.invariant.run c.peek.ensures.any_moment;
   faults = c.in_ok-spans.ensures.cause ∙ c.generations.invariant.faults;
   so_far = still_peeked (g.D.Disk.tells c.args.disk.now) (g.D.Disk.tells c.generations.disk) c.generations.invariant.count c.generations.invariant.same c.pop.new.self.items c.in-Some.file
       (λ honest. subst (λ l. IsPeekedTo l (account (g.D.Disk.tells c.args.disk.now)).files) c.in-Some.ensures.items (c.generations.invariant.so_far honest))

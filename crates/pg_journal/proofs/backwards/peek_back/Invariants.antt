@@ -13,7 +13,7 @@ invariant-generations g l = record {
   kinds : All (λ file. file.kind ≡ OfJournal) l.generations.items;
   count : ℕ;
   same : Changes (g.D.Disk.tells l.fn.disk) (g.D.Disk.tells l.disk) (Reads count);
-  run : Within g.D.Disk.moment g.D.Disk.left_since l.fn.disk l.disk (Leaves (g.D.Disk.tells l.fn.disk));
+  run : Within g.D.Disk l.fn.disk l.disk Leaves;
   faults : g.D.Disk.faults l.disk ≡ g.D.Disk.faults l.fn.disk;
   so_far : IsHonest (g.D.Disk.tells l.fn.disk) → IsPeekedTo l.generations.items (account (g.D.Disk.tells l.fn.disk)).files;
 }

@@ -19,27 +19,27 @@ generations-init g c = record {
   kinds = c.requires.kinds;
   stays = no_change (g.D.Disk.tells c.args.disk.now);
   taken = λ honest. none_taken c.args.generations.items (account (g.D.Disk.tells c.args.disk.now)) (c.requires.listed honest);
-  run = not_scanned g.D.Disk.moment g.D.Disk.left_since g.D.Disk.tells c.args.disk.now (g.met.D.Disk.only_now c.args.disk.now);
+  run = not_scanned g.D.Disk c.args.disk.now (g.met.D.Disk.only_now c.args.disk.now);
   faults = refl;
   so_far = λ honest. none_scanned c.args.generations.items (account (g.D.Disk.tells c.args.disk.now)).files (c.requires.listed honest);
 }
 
 pub scan-requires : goal.scan-requires
 scan-requires g c =
-    can_scan g.D.Disk.moment g.D.Disk.left_since g.D.Disk.tells c.args.disk.now c.generations.disk c.pop.new.self.items c.in-Some.file c.generations.last
+    can_scan g.D.Disk c.args.disk.now c.generations.disk c.pop.new.self.items c.in-Some.file c.generations.last
     (last_kind c.pop.new.self.items c.in-Some.file (subst (λ l. All (λ (file : FileId). file.kind ≡ OfJournal) l) c.in-Some.ensures.items c.generations.invariant.kinds)) c.generations.invariant.stays
     (λ honest. subst (λ l. IsScannedTo l c.generations.last (account (g.D.Disk.tells c.args.disk.now)).files (account (g.D.Disk.tells c.generations.disk)).files) c.in-Some.ensures.items (c.generations.invariant.so_far honest))
 
 pub returns-in_err-rest-clause-stays : goal.returns-in_err-rest-clause-stays
 returns-in_err-rest-clause-stays g c =
-    stays_then g.D.Disk.moment g.D.Disk.left_since g.D.Disk.tells c.args.disk.now c.generations.disk c.pop.new.self.items c.in-Some.file c.generations.last
+    stays_then g.D.Disk c.args.disk.now c.generations.disk c.pop.new.self.items c.in-Some.file c.generations.last
     (last_kind c.pop.new.self.items c.in-Some.file (subst (λ l. All (λ (file : FileId). file.kind ≡ OfJournal) l) c.in-Some.ensures.items c.generations.invariant.kinds)) c.generations.invariant.stays
     (λ honest. subst (λ l. IsScannedTo l c.generations.last (account (g.D.Disk.tells c.args.disk.now)).files (account (g.D.Disk.tells c.generations.disk)).files) c.in-Some.ensures.items (c.generations.invariant.so_far honest))
     c.scan.new.disk c.scan.ensures.stays
 
 pub returns-in_err-rest-clause-any_moment : goal.returns-in_err-rest-clause-any_moment
 returns-in_err-rest-clause-any_moment g c =
-    in_scan g.D.Disk.moment g.D.Disk.left_since g.D.Disk.tells c.args.disk.now c.generations.disk c.pop.new.self.items c.in-Some.file c.generations.last
+    in_scan g.D.Disk c.args.disk.now c.generations.disk c.pop.new.self.items c.in-Some.file c.generations.last
     (last_kind c.pop.new.self.items c.in-Some.file (subst (λ l. All (λ (file : FileId). file.kind ≡ OfJournal) l) c.in-Some.ensures.items c.generations.invariant.kinds)) c.generations.invariant.stays
     (λ honest. subst (λ l. IsScannedTo l c.generations.last (account (g.D.Disk.tells c.args.disk.now)).files (account (g.D.Disk.tells c.generations.disk)).files) c.in-Some.ensures.items (c.generations.invariant.so_far honest))
     c.scan.new.disk c.generations.invariant.run c.scan.ensures.any_moment
@@ -49,7 +49,7 @@ returns-in_err-rest-clause-damaged g c =
     let is = err_from_is_err_and c.from_residual.result c.from_residual.ensures.1 in
     let kind = last_kind c.pop.new.self.items c.in-Some.file (subst (λ l. All (λ (file : FileId). file.kind ≡ OfJournal) l) c.in-Some.ensures.items c.generations.invariant.kinds) in
     rw (is.1, is.2) (cut_generation (g.D.Disk.tells c.args.disk.now) c.in-Some.file _ c.in_err-rest.field-0.0 kind
-    (cut_before g.D.Disk.moment g.D.Disk.left_since g.D.Disk.tells c.args.disk.now c.generations.disk c.pop.new.self.items c.in-Some.file c.generations.last kind c.generations.invariant.stays
+    (cut_before g.D.Disk c.args.disk.now c.generations.disk c.pop.new.self.items c.in-Some.file c.generations.last kind c.generations.invariant.stays
     (λ honest. subst (λ l. IsScannedTo l c.generations.last (account (g.D.Disk.tells c.args.disk.now)).files (account (g.D.Disk.tells c.generations.disk)).files) c.in-Some.ensures.items (c.generations.invariant.so_far honest)))
     c.in_err-rest.ensures.only c.in_err-rest.ensures.damaged)
 
@@ -62,21 +62,21 @@ returns-in_err-rest-clause-kept g c =
 
 pub returns-then-not-is_empty-clause-found : goal.returns-then-not-is_empty-clause-found
 returns-then-not-is_empty-clause-found g c =
-    now_found g.D.Disk.moment g.D.Disk.left_since g.D.Disk.tells c.args.disk.now c.generations.disk c.pop.new.self.items c.in-Some.file c.generations.last
+    now_found g.D.Disk c.args.disk.now c.generations.disk c.pop.new.self.items c.in-Some.file c.generations.last
     (last_kind c.pop.new.self.items c.in-Some.file (subst (λ l. All (λ (file : FileId). file.kind ≡ OfJournal) l) c.in-Some.ensures.items c.generations.invariant.kinds)) c.generations.invariant.stays
     (λ honest. subst (λ l. IsScannedTo l c.generations.last (account (g.D.Disk.tells c.args.disk.now)).files (account (g.D.Disk.tells c.generations.disk)).files) c.in-Some.ensures.items (c.generations.invariant.so_far honest))
     c.scan.new.disk c.scan.ensures.stays c.in_ok-rest.rest c.in_ok-rest.spans c.in_ok-rest.ensures.file c.in_ok-rest.ensures.scanned c.if-not-is_empty.ensures
 
 pub returns-then-not-is_empty-clause-stays : goal.returns-then-not-is_empty-clause-stays
 returns-then-not-is_empty-clause-stays g c =
-    stays_then g.D.Disk.moment g.D.Disk.left_since g.D.Disk.tells c.args.disk.now c.generations.disk c.pop.new.self.items c.in-Some.file c.generations.last
+    stays_then g.D.Disk c.args.disk.now c.generations.disk c.pop.new.self.items c.in-Some.file c.generations.last
     (last_kind c.pop.new.self.items c.in-Some.file (subst (λ l. All (λ (file : FileId). file.kind ≡ OfJournal) l) c.in-Some.ensures.items c.generations.invariant.kinds)) c.generations.invariant.stays
     (λ honest. subst (λ l. IsScannedTo l c.generations.last (account (g.D.Disk.tells c.args.disk.now)).files (account (g.D.Disk.tells c.generations.disk)).files) c.in-Some.ensures.items (c.generations.invariant.so_far honest))
     c.scan.new.disk c.scan.ensures.stays
 
 pub returns-then-not-is_empty-clause-any_moment : goal.returns-then-not-is_empty-clause-any_moment
 returns-then-not-is_empty-clause-any_moment g c =
-    in_scan g.D.Disk.moment g.D.Disk.left_since g.D.Disk.tells c.args.disk.now c.generations.disk c.pop.new.self.items c.in-Some.file c.generations.last
+    in_scan g.D.Disk c.args.disk.now c.generations.disk c.pop.new.self.items c.in-Some.file c.generations.last
     (last_kind c.pop.new.self.items c.in-Some.file (subst (λ l. All (λ (file : FileId). file.kind ≡ OfJournal) l) c.in-Some.ensures.items c.generations.invariant.kinds)) c.generations.invariant.stays
     (λ honest. subst (λ l. IsScannedTo l c.generations.last (account (g.D.Disk.tells c.args.disk.now)).files (account (g.D.Disk.tells c.generations.disk)).files) c.in-Some.ensures.items (c.generations.invariant.so_far honest))
     c.scan.new.disk c.generations.invariant.run c.scan.ensures.any_moment
@@ -84,20 +84,20 @@ returns-then-not-is_empty-clause-any_moment g c =
 pub generations-preserved : goal.generations-preserved
 generations-preserved g c = record {
   kinds = (All-pop (λ (file : FileId). file.kind ≡ OfJournal) _ _ _ c.pop.ensures.items c.generations.invariant.kinds).0;
-  stays = stays_then g.D.Disk.moment g.D.Disk.left_since g.D.Disk.tells c.args.disk.now c.generations.disk c.pop.new.self.items c.in-Some.file c.generations.last
+  stays = stays_then g.D.Disk c.args.disk.now c.generations.disk c.pop.new.self.items c.in-Some.file c.generations.last
       (last_kind c.pop.new.self.items c.in-Some.file (subst (λ l. All (λ (file : FileId). file.kind ≡ OfJournal) l) c.in-Some.ensures.items c.generations.invariant.kinds)) c.generations.invariant.stays
       (λ honest. subst (λ l. IsScannedTo l c.generations.last (account (g.D.Disk.tells c.args.disk.now)).files (account (g.D.Disk.tells c.generations.disk)).files) c.in-Some.ensures.items (c.generations.invariant.so_far honest))
       c.scan.new.disk c.scan.ensures.stays;
   taken = more_taken (g.D.Disk.tells c.args.disk.now) (g.D.Disk.tells c.generations.disk) (g.D.Disk.tells c.scan.new.disk) c.pop.new.self.items c.in-Some.file c.generations.last c.generations.invariant.stays
       (λ honest. subst (λ l. IsScannedTo l c.generations.last (account (g.D.Disk.tells c.args.disk.now)).files (account (g.D.Disk.tells c.generations.disk)).files) c.in-Some.ensures.items (c.generations.invariant.so_far honest))
       (λ honest. subst (λ l. TakesTo l (account (g.D.Disk.tells c.args.disk.now)) (account (g.D.Disk.tells c.generations.disk))) c.in-Some.ensures.items (c.generations.invariant.taken honest)) c.in_ok-rest.spans.items c.in_ok-rest.ensures.taken;
-  run = in_scan g.D.Disk.moment g.D.Disk.left_since g.D.Disk.tells c.args.disk.now c.generations.disk c.pop.new.self.items c.in-Some.file c.generations.last
+  run = in_scan g.D.Disk c.args.disk.now c.generations.disk c.pop.new.self.items c.in-Some.file c.generations.last
       (last_kind c.pop.new.self.items c.in-Some.file (subst (λ l. All (λ (file : FileId). file.kind ≡ OfJournal) l) c.in-Some.ensures.items c.generations.invariant.kinds)) c.generations.invariant.stays
       (λ honest. subst (λ l. IsScannedTo l c.generations.last (account (g.D.Disk.tells c.args.disk.now)).files (account (g.D.Disk.tells c.generations.disk)).files) c.in-Some.ensures.items (c.generations.invariant.so_far honest))
       c.scan.new.disk c.generations.invariant.run c.scan.ensures.any_moment;
   faults = c.in_ok-rest.ensures.cause ∙ c.generations.invariant.faults;
   so_far = λ honest. subst (λ found. IsScannedTo c.pop.new.self.items found (account (g.D.Disk.tells c.args.disk.now)).files (account (g.D.Disk.tells c.scan.new.disk)).files) (sym c.or-last.ensures)
-      (still_scanned g.D.Disk.moment g.D.Disk.left_since g.D.Disk.tells c.args.disk.now c.generations.disk c.pop.new.self.items c.in-Some.file c.generations.last
+      (still_scanned g.D.Disk c.args.disk.now c.generations.disk c.pop.new.self.items c.in-Some.file c.generations.last
       (last_kind c.pop.new.self.items c.in-Some.file (subst (λ l. All (λ (file : FileId). file.kind ≡ OfJournal) l) c.in-Some.ensures.items c.generations.invariant.kinds)) c.generations.invariant.stays
       (λ honest. subst (λ l. IsScannedTo l c.generations.last (account (g.D.Disk.tells c.args.disk.now)).files (account (g.D.Disk.tells c.generations.disk)).files) c.in-Some.ensures.items (c.generations.invariant.so_far honest))
       c.scan.new.disk c.scan.ensures.stays c.in_ok-rest.rest c.in_ok-rest.spans c.in_ok-rest.ensures.file c.in_ok-rest.ensures.scanned c.if-not-is_empty.ensures honest);

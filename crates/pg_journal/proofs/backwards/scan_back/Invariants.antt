@@ -14,7 +14,7 @@ invariant-generations g l = record {
   kinds : All (λ file. file.kind ≡ OfJournal) l.generations.items;
   stays : Changes (g.D.Disk.tells l.fn.disk) (g.D.Disk.tells l.disk) ReadsGenerations;
   taken : IsHonest (g.D.Disk.tells l.fn.disk) → TakesTo l.generations.items (account (g.D.Disk.tells l.fn.disk)) (account (g.D.Disk.tells l.disk));
-  run : Within g.D.Disk.moment g.D.Disk.left_since l.fn.disk l.disk (LeavesJournal (g.D.Disk.tells l.fn.disk));
+  run : Within g.D.Disk l.fn.disk l.disk LeavesJournal;
   faults : g.D.Disk.faults l.disk ≡ g.D.Disk.faults l.fn.disk;
   so_far : IsHonest (g.D.Disk.tells l.fn.disk) → IsScannedTo l.generations.items l.last (account (g.D.Disk.tells l.fn.disk)).files (account (g.D.Disk.tells l.disk)).files;
 }

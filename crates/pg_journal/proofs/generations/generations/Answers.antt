@@ -5,7 +5,7 @@ use Rattle.pg_journal.proofs.generations.generations.Goals as goal
 
 pub returns-in_err-files-clause-any_moment : goal.returns-in_err-files-clause-any_moment
 returns-in_err-files-clause-any_moment g c =
-    one_read g.D.Disk.moment g.D.Disk.left_since g.D.Disk.tells c.args.disk.now c.list.new.self (g.met.D.Disk.only_now c.args.disk.now) c.list.ensures.time
+    one_read g.D.Disk c.args.disk.now c.list.new.self (g.met.D.Disk.only_now c.args.disk.now) c.list.ensures.time
 
 pub returns-clause-listed : goal.returns-clause-listed
 returns-clause-listed g c = λ honest.

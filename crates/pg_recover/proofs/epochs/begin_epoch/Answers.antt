@@ -2,11 +2,11 @@ use Rattle.std.proofs.Common.{refl, sym, subst}
 use Rattle.pg_disk.specs.Account.{account, IsHonest}
 use Rattle.pg_disk.specs.Calls.{Changes}
 use Rattle.pg_disk.specs.Moments.{Within}
-use Rattle.pg_disk.proofs.Runs.{started, then_run, weaker}
+use Rattle.pg_disk.proofs.Composing.{started, then_run, weaker}
 use Rattle.pg_journal.specs.Stands.{name_of}
 use Rattle.pg_recover.specs.Removing.{HasNoOther, LeavesOthersGone, ListsOthers, RemovesOthers}
 use Rattle.pg_recover.proofs.EpochLemmas.{added_whole, adding_leaves, gone_leaves, nothing_leaves, owned, stands_still}
-use Rattle.pg_recover.proofs.OpenLemmas.{added_opens, removed_opens}
+use Rattle.pg_recover.proofs.OpenedLemmas.{added_opens, removed_opens}
 use Rattle.pg_recover.proofs.epochs.begin_epoch.Goals as goal
 
 pub encode_batch-requires : goal.encode_batch-requires
@@ -26,19 +26,19 @@ append-requires g c = λ honest.
 
 pub returns-in_err-batch-clause-any_moment : goal.returns-in_err-batch-clause-any_moment
 returns-in_err-batch-clause-any_moment g c =
-    started g.D.Disk.moment g.D.Disk.left_since c.args.disk.now _ (λ d b left. nothing_leaves c.args.durable _ refl c.requires.next c.args.journal (g.D.Disk.tells c.args.disk.now) c.args.files.now c.requires.ready d b (g.met.D.Disk.only_now c.args.disk.now d b left))
+    started g.D.Disk c.args.disk.now _ (λ d b left. nothing_leaves c.args.durable _ refl c.requires.next c.args.journal (g.D.Disk.tells c.args.disk.now) c.args.files.now c.requires.ready d b (g.met.D.Disk.only_now c.args.disk.now d b left))
 
 pub returns-in_err-remove_others-clause-any_moment : goal.returns-in_err-remove_others-clause-any_moment
 returns-in_err-remove_others-clause-any_moment g c =
-    weaker g.D.Disk.moment g.D.Disk.left_since c.args.disk.now c.remove_others.new.disk _ _
-    (subst (λ f. Within g.D.Disk.moment g.D.Disk.left_since c.args.disk.now c.remove_others.new.disk (LeavesOthersGone f (g.D.Disk.tells c.args.disk.now))) c.file.ensures c.remove_others.ensures.any_moment)
+    weaker g.D.Disk c.args.disk.now c.remove_others.new.disk _ _
+    (subst (λ f. Within g.D.Disk c.args.disk.now c.remove_others.new.disk (LeavesOthersGone f)) c.file.ensures c.remove_others.ensures.any_moment)
     (gone_leaves c.args.durable c.in_ok-batch.batch c.in_ok-batch.ensures c.requires.next c.args.journal (g.D.Disk.tells c.args.disk.now) c.args.files.now c.requires.ready)
 
 pub returns-in_err-journal-clause-any_moment : goal.returns-in_err-journal-clause-any_moment
 returns-in_err-journal-clause-any_moment g c =
-    then_run g.D.Disk.moment g.D.Disk.left_since c.args.disk.now c.remove_others.new.disk c.append.new.disk _ _
-    (weaker g.D.Disk.moment g.D.Disk.left_since c.args.disk.now c.remove_others.new.disk _ _
-    (subst (λ f. Within g.D.Disk.moment g.D.Disk.left_since c.args.disk.now c.remove_others.new.disk (LeavesOthersGone f (g.D.Disk.tells c.args.disk.now))) c.file.ensures c.remove_others.ensures.any_moment)
+    then_run g.D.Disk c.args.disk.now c.remove_others.new.disk c.append.new.disk _ _
+    (weaker g.D.Disk c.args.disk.now c.remove_others.new.disk _ _
+    (subst (λ f. Within g.D.Disk c.args.disk.now c.remove_others.new.disk (LeavesOthersGone f)) c.file.ensures c.remove_others.ensures.any_moment)
     (gone_leaves c.args.durable c.in_ok-batch.batch c.in_ok-batch.ensures c.requires.next c.args.journal (g.D.Disk.tells c.args.disk.now) c.args.files.now c.requires.ready))
     c.append.ensures.any_moment
     (adding_leaves c.args.durable c.in_ok-batch.batch c.in_ok-batch.ensures c.requires.next c.args.journal (g.D.Disk.tells c.args.disk.now) c.args.files.now c.requires.ready (g.D.Disk.tells c.remove_others.new.disk)
@@ -47,9 +47,9 @@ returns-in_err-journal-clause-any_moment g c =
 
 pub returns-clause-any_moment : goal.returns-clause-any_moment
 returns-clause-any_moment g c =
-    then_run g.D.Disk.moment g.D.Disk.left_since c.args.disk.now c.remove_others.new.disk c.append.new.disk _ _
-    (weaker g.D.Disk.moment g.D.Disk.left_since c.args.disk.now c.remove_others.new.disk _ _
-    (subst (λ f. Within g.D.Disk.moment g.D.Disk.left_since c.args.disk.now c.remove_others.new.disk (LeavesOthersGone f (g.D.Disk.tells c.args.disk.now))) c.file.ensures c.remove_others.ensures.any_moment)
+    then_run g.D.Disk c.args.disk.now c.remove_others.new.disk c.append.new.disk _ _
+    (weaker g.D.Disk c.args.disk.now c.remove_others.new.disk _ _
+    (subst (λ f. Within g.D.Disk c.args.disk.now c.remove_others.new.disk (LeavesOthersGone f)) c.file.ensures c.remove_others.ensures.any_moment)
     (gone_leaves c.args.durable c.in_ok-batch.batch c.in_ok-batch.ensures c.requires.next c.args.journal (g.D.Disk.tells c.args.disk.now) c.args.files.now c.requires.ready))
     c.append.ensures.any_moment
     (adding_leaves c.args.durable c.in_ok-batch.batch c.in_ok-batch.ensures c.requires.next c.args.journal (g.D.Disk.tells c.args.disk.now) c.args.files.now c.requires.ready (g.D.Disk.tells c.remove_others.new.disk)

@@ -1,18 +1,18 @@
-use Rattle.std.proofs.Common.{◌≡◌, ◌∙◌, ◌+◌, ◌<◌, ℕ, List, ◌∷◌, [], ◌++◌, length, get_or, drop, None, refl, sym, ap, subst}
+use Rattle.std.proofs.Common.{◌≡◌, ◌∙◌, ◌+◌, ◌<◌, ℕ, List, ◌∷◌, [], ◌++◌, length, get_or, take, drop, Some, refl, sym, ap, subst}
 use Rattle.std.proofs.lemmas.Iterator.Adapters.{YieldsList-from_vec}
 use Rattle.std.proofs.lemmas.Iterator.Consumers.{YieldsList-turn, YieldsList-end}
 use Rattle.std.proofs.lemmas.Result.{err_from_is_err_and}
 use Rattle.std.proofs.lemmas.List.{length_push}
 use Rattle.pg_records.specs.declared.entry.Entry.{Entry}
 use Rattle.pg_records.specs.Entries.{HaveFields}
-use Rattle.pg_records.proofs.Spelling.{next_fields}
+use Rattle.pg_records.proofs.BatchBytes.{next_fields}
 use Rattle.pg_fold.specs.declared.durable.Durable.{Durable}
 use Rattle.pg_fold.specs.declared.fold_error.FoldError.{FoldError}
 use Rattle.pg_fold.specs.declared.fold_error.FoldError.TheVariants.{Broken, Memory}
 use Rattle.pg_fold.specs.Fold.{fold, rule_of, IsBrokenBy}
 use Rattle.pg_fold.proofs.SoundLaws.{sound_kept}
-use Rattle.pg_recover.specs.Folding.{IsBroken}
-use Rattle.pg_recover.proofs.AlikeLemmas.{entry_applied, entry_broken, entries_done}
+use Rattle.pg_recover.specs.Folding.{HaveBroken, IsBroken}
+use Rattle.pg_recover.proofs.FoldingLemmas.{entry_applied, entry_broken, entries_done}
 use Rattle.pg_recover.proofs.folding.fold_entries.Goals as goal
 
 pub loop-entry-init : goal.loop-entry-init
@@ -32,14 +32,13 @@ loop-entry-preserved c =
     record {
       fields = subst (λ n. HaveFields (drop n c.args.entries.items)) (sym more) fields.1;
       sound = sound_kept c.loop-entry.durable c.in_ok-durable.durable c.in-Some.entry c.loop-entry.invariant.sound fields.0 c.in_ok-durable.ensures.applied;
-      so_far = c.loop-entry.invariant.so_far
-          ∙ entry_applied c.loop-entry.durable c.in_ok-durable.durable c.args.entries.items (length c.loop-entry.yielded) c.in-Some.entry t.0 t.1 c.in_ok-durable.ensures.applied
-          ∙ ap (λ n. fold c.in_ok-durable.durable (drop n c.args.entries.items)) (sym more);
+      so_far = ap (λ n. fold c.args.durable (take n c.args.entries.items)) more
+          ∙ entry_applied c.args.durable c.loop-entry.durable c.in_ok-durable.durable c.args.entries.items (length c.loop-entry.yielded) c.in-Some.entry t.0 t.1 c.loop-entry.invariant.so_far c.in_ok-durable.ensures.applied;
     }
 
--- what breaks a rule leads nowhere
-broken : (d start : Durable) (all : List Entry) (n : ℕ) (x : Entry) (e : FoldError) → n < length all → x ≡ get_or all n x → fold start all ≡ fold d (drop n all) → IsBrokenBy (rule_of d x) e → IsBroken (fold start all ≡ None) e
-broken d start all n x (Broken rule) inside is so_far here = so_far ∙ entry_broken d all n x rule inside is here
+-- the entry that was yielded breaks the rule
+broken : (d start : Durable) (all : List Entry) (n : ℕ) (x : Entry) (e : FoldError) → n < length all → x ≡ get_or all n x → fold start (take n all) ≡ Some d → IsBrokenBy (rule_of d x) e → IsBroken (HaveBroken start all) e
+broken d start all n x (Broken rule) inside is so_far here = entry_broken start d all n x rule inside is so_far here
 broken d start all n x Memory inside is so_far here = tt
 
 pub returns-in_err-durable-clause-broken : goal.returns-in_err-durable-clause-broken
@@ -54,4 +53,4 @@ pub returns-clause-folded : goal.returns-clause-folded
 returns-clause-folded c =
     let gives = c.into_iter-entry-iterator.ensures.into_iter_gives in
     let t = YieldsList-end (YieldsList-from_vec {s = c.into_iter-entry-iterator.result} c.args.entries.items gives.0 (gives.1 ∙ c.args.entries.ok.0)) c.loop-entry.yielded c.loop-entry.entry-iterator c.loop-entry.yielded_by c.next.result c.next.new.self c.in-None.is c.next.ensures.steps in
-    c.loop-entry.invariant.so_far ∙ entries_done c.loop-entry.durable c.args.entries.items (length c.loop-entry.yielded) t.1
+    entries_done c.args.durable c.loop-entry.durable c.args.entries.items (length c.loop-entry.yielded) t.1 c.loop-entry.invariant.so_far

@@ -1,4 +1,4 @@
-use Rattle.std.proofs.Common.{◌≡◌, drop, length}
+use Rattle.std.proofs.Common.{◌≡◌, take, drop, length, Some}
 use Rattle.pg_records.specs.Entries.{HaveFields}
 use Rattle.pg_fold.specs.Fold.{fold}
 use Rattle.pg_fold.specs.Sound.{IsSound}
@@ -8,5 +8,5 @@ abbrev pub invariant-loop-entry : goal.invariant-loop-entry
 invariant-loop-entry l = record {
   fields : HaveFields (drop (length l.yielded) l.fn.entries.items);
   sound : IsSound l.durable;
-  so_far : fold l.fn.durable l.fn.entries.items ≡ fold l.durable (drop (length l.yielded) l.fn.entries.items);
+  so_far : fold l.fn.durable (take (length l.yielded) l.fn.entries.items) ≡ Some l.durable;
 }

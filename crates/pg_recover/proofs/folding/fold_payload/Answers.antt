@@ -1,4 +1,5 @@
-use Rattle.pg_recover.proofs.AlikeLemmas.{payload_folds, payload_breaks}
+use Rattle.std.proofs.Common.{inl, refl}
+use Rattle.pg_recover.proofs.FoldingLemmas.{payload_folds, payload_breaks}
 use Rattle.pg_recover.proofs.folding.fold_payload.Goals as goal
 
 pub fold_entries-requires : goal.fold_entries-requires
@@ -15,4 +16,4 @@ returns-in-Some-clause-broken c =
     payload_breaks c.args.durable c.args.payload.now c.in-Some.entries.items spells c.fold_entries.result c.fold_entries.ensures.broken
 
 pub returns-in-None-clause-broken : goal.returns-in-None-clause-broken
-returns-in-None-clause-broken c = let none = rw c.in-None.is at c.in_ok-entries.ensures.found in λ after folds. none folds.entries folds.spelled
+returns-in-None-clause-broken c = let none = rw c.in-None.is at c.in_ok-entries.ensures.found in inl (refl, none)

@@ -1,5 +1,5 @@
 use Rattle.std.proofs.Common.{ℕ}
-use Rattle.pg_recover.specs.Places.{AreInside, IsInside}
+use Rattle.pg_gate.specs.Payloads.{AreInside, IsInside}
 use Rattle.pg_recover.proofs.GroupLemmas.{CoversFirst}
 use Rattle.pg_recover.proofs.grouping.first_group.Given as goal
 

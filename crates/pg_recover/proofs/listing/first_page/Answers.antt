@@ -1,4 +1,4 @@
-use Rattle.pg_recover.proofs.ListLemmas.{none_at_zero, none_behind, first_of}
+use Rattle.pg_recover.proofs.ListingLemmas.{none_at_zero, none_behind, first_of}
 use Rattle.pg_recover.proofs.listing.first_page.Goals as goal
 
 pub returns-in_err-place : goal.returns-in_err-place

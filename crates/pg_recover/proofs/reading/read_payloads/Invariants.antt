@@ -10,7 +10,7 @@ abbrev pub invariant-groups : goal.invariant-groups
 invariant-groups g l = record {
   count : ℕ;
   same : Changes (g.D.Disk.tells l.fn.disk) (g.D.Disk.tells l.disk) (Reads count);
-  run : Within g.D.Disk.moment g.D.Disk.left_since l.fn.disk l.disk (Leaves (g.D.Disk.tells l.fn.disk));
+  run : Within g.D.Disk l.fn.disk l.disk Leaves;
   faults : g.D.Disk.faults l.disk ≡ g.D.Disk.faults l.fn.disk;
   sound : IsSound l.durable;
   so_far : LeadsTo l.file (g.D.Disk.tells l.fn.disk) l.spans l.fn.durable l.durable l.rest;

@@ -1,13 +1,13 @@
 use Rattle.std.proofs.Common.{◌∙◌, refl, arith}
 use Rattle.pg_disk.specs.Account.{account}
-use Rattle.pg_disk.proofs.Runs.{started, then_run}
-use Rattle.pg_recover.proofs.RemoveLemmas.{all_gone, all_left, none_gone, none_removed, one_gone, others_leave, then_removed}
+use Rattle.pg_disk.proofs.Composing.{started, then_run}
+use Rattle.pg_recover.proofs.RemovingLemmas.{all_gone, all_left, none_gone, none_removed, one_gone, others_leave, then_removed}
 use Rattle.pg_recover.proofs.removing.remove_others.Goals as goal
 
 pub loop-file-init : goal.loop-file-init
 loop-file-init g c = record {
   stays = none_removed c.args.keep (g.D.Disk.tells c.args.disk.now);
-  run = started g.D.Disk.moment g.D.Disk.left_since c.args.disk.now _ (λ d b left. all_left c.args.keep (g.D.Disk.tells c.args.disk.now) d b (g.met.D.Disk.only_now c.args.disk.now d b left));
+  run = started g.D.Disk c.args.disk.now _ (λ d b left. all_left c.args.keep (g.D.Disk.tells c.args.disk.now) d b (g.met.D.Disk.only_now c.args.disk.now d b left));
   faults = refl;
   so_far = λ honest. none_gone c.args.files.now c.args.keep (account (g.D.Disk.tells c.args.disk.now)).files (c.requires honest);
 }
@@ -20,13 +20,13 @@ returns-in_err-remove_other-clause-stays g c = then_removed c.args.keep (g.D.Dis
 
 pub returns-in_err-remove_other-clause-any_moment : goal.returns-in_err-remove_other-clause-any_moment
 returns-in_err-remove_other-clause-any_moment g c =
-    then_run g.D.Disk.moment g.D.Disk.left_since c.args.disk.now c.loop-file.disk c.remove_other.new.disk _ _ c.loop-file.invariant.run c.remove_other.ensures.any_moment
+    then_run g.D.Disk c.args.disk.now c.loop-file.disk c.remove_other.new.disk _ _ c.loop-file.invariant.run c.remove_other.ensures.any_moment
     (others_leave c.args.keep (g.D.Disk.tells c.args.disk.now) (g.D.Disk.tells c.loop-file.disk) c.loop-file.invariant.stays)
 
 pub loop-file-preserved : goal.loop-file-preserved
 loop-file-preserved g c = record {
   stays = then_removed c.args.keep (g.D.Disk.tells c.args.disk.now) (g.D.Disk.tells c.loop-file.disk) c.loop-file.invariant.stays (g.D.Disk.tells c.remove_other.new.disk) _ c.remove_other.ensures.stays;
-  run = then_run g.D.Disk.moment g.D.Disk.left_since c.args.disk.now c.loop-file.disk c.remove_other.new.disk _ _ c.loop-file.invariant.run c.remove_other.ensures.any_moment
+  run = then_run g.D.Disk c.args.disk.now c.loop-file.disk c.remove_other.new.disk _ _ c.loop-file.invariant.run c.remove_other.ensures.any_moment
       (others_leave c.args.keep (g.D.Disk.tells c.args.disk.now) (g.D.Disk.tells c.loop-file.disk) c.loop-file.invariant.stays);
   faults = c.in_ok-remove_other.ensures.cause ∙ c.loop-file.invariant.faults;
   so_far = λ honest. one_gone c.args.files.now c.loop-file.file-index _ c.loop-file-test.true c.args.keep (g.D.Disk.tells c.args.disk.now) (g.D.Disk.tells c.loop-file.disk) (g.D.Disk.tells c.remove_other.new.disk) c.remove_other.ensures.stays

@@ -9,5 +9,5 @@ returns-in-None-clause-executes g c honest =
     inr (
       None,
       subst (λ o. ReadsAs c.args.line.now o) c.in-None.is c.in_ok-command.ensures,
-      refused g.D.Disk.moment g.D.Disk.left_since g.D.Disk.tells c.args.disk.now (g.met.D.Disk.only_now c.args.disk.now) c.args.engine (c.requires honest) honest _ Line (refl, refl),
+      refused g.D.Disk c.args.disk.now (g.met.D.Disk.only_now c.args.disk.now) c.args.engine (c.requires honest) honest _ Line (refl, refl),
     )

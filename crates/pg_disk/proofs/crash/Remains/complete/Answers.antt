@@ -1,9 +1,8 @@
-use Rattle.std.proofs.Common.{ℕ, true, List, OnOk, sym, subst}
+use Rattle.std.proofs.Common.{◌≡◌, ◌∙◌, ⊎_elim, ℕ, true, List, OnOk, ap, sym, subst}
 use Rattle.pg_disk.specs.declared.call_record.Event.TheVariants as event
 use Rattle.pg_disk.specs.Crash.{Redoes}
 use Rattle.pg_disk.specs.Left.{left_of_write, left_after}
-use Rattle.pg_disk.specs.Replay.{step, after_write}
-use Rattle.pg_disk.proofs.CompleteLemmas.{completed_same}
+use Rattle.pg_disk.specs.Replay.{completed, step, after_write}
 use Rattle.pg_disk.proofs.RedoLemmas.{completes_as, completes_is}
 use Rattle.pg_disk.proofs.crash.Remains.complete.Goals as goal
 
@@ -19,7 +18,11 @@ returns-in-Create c = completes_as c.create.result c.args.pick c.args.self.now c
 pub returns-in-Remove : goal.returns-in-Remove
 returns-in-Remove c = completes_is c.args.pick c.args.self.now c.remove.new.self c.args.event.now (event.Remove c.in-Remove.file c.in-Remove.field-1) c.in-Remove.is c.remove.ensures
 
-pub returns-in_default : goal.returns-in_default
-returns-in_default c =
-    let same = completed_same c.args.event.now c.in_default.not-Write c.in_default.not-Create c.in_default.not-Remove in
+pub returns-in-List : goal.returns-in-List
+returns-in-List c =
+    let same : completed c.args.event.now ≡ c.args.event.now = ⊎_elim (λ p. ap completed p ∙ sym p)
+    (⊎_elim (λ q. ap completed q.1 ∙ sym q.1)
+    (⊎_elim (λ q. ap completed q.2 ∙ sym q.2)
+    (⊎_elim (λ q. ap completed q.2 ∙ sym q.2)
+    (⊎_elim (λ q. ap completed q.2 ∙ sym q.2) (⊎_elim (λ q. ap completed q.2 ∙ sym q.2) (λ q. ap completed q.1 ∙ sym q.1)))))) c.in-List.is in
     subst (λ e. OnOk c.redo.result (Redoes (step e) (left_after c.args.pick e) c.args.self.now c.redo.new.self)) (sym same) c.redo.ensures

@@ -6,7 +6,7 @@ use Rattle.pg_disk.specs.Account.{FileState, IsHonest}
 use Rattle.pg_disk.specs.Calls.{Changes, Reads, ReadsAt}
 use Rattle.pg_disk.specs.Image.{Leaves}
 use Rattle.pg_disk.specs.MemSite.{events_of, account_of, tells_of}
-use Rattle.pg_disk.specs.Moments.{Elapses}
+use Rattle.pg_disk.specs.Elapsing.{Elapses}
 use Rattle.pg_disk.specs.Recorded.{Recorded}
 use Rattle.pg_disk.specs.Replay.{start, replay, after_read, LeftSince}
 use Rattle.pg_disk.proofs.Effects.{reads_is, reads_none, leaves_read}

@@ -1,5 +1,4 @@
 use Rattle.std.proofs.Common.{Some, true, false, refl, inr}
-use Rattle.std.specs.FinMap.{get}
 use Rattle.pg_disk.specs.declared.call_record.CallKind.TheVariants as kind
 use Rattle.pg_disk.specs.Calls.{ChangesFile, Removed}
 use Rattle.pg_disk.specs.Image.{LeavesAt, MayBeRemoved}
@@ -21,7 +20,7 @@ returns-clause-time c =
     let m = c.args.self.now in
     let f = c.args.file in
     settled_time (events_of m) c.remove-outcome.new.self.history.events.items (Some (kind.Remove f)) false (after_remove f) c.remove-outcome.result c.call_succeeds-done.result _ _ _ _ c.settle.result c.remove-outcome.ensures c.settle.ensures
-    (LeavesAt f (MayBeRemoved (get (account_of m).files f)) (tells_of m)) (λ b is d t left. leaves_removed (events_of m) f b d t left) (λ b is d t left. leaves_removed (events_of m) f true d t left)
+    (LeavesAt f MayBeRemoved (tells_of m)) (λ b is d t left. leaves_removed (events_of m) f b d t left) (λ b is d t left. leaves_removed (events_of m) f true d t left)
 
 pub returns-clause-answer : goal.returns-clause-answer
 returns-clause-answer c =

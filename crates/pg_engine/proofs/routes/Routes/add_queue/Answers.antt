@@ -8,9 +8,9 @@ use Rattle.pg_engine.proofs.routes.Routes.add_queue.Goals as goal
 
 -- the entry that is made
 abbrev entry : goal.In_ok-insert → String Global × QueueEntry
-entry c = (c.into_string.result, record { number = c.args.number; address = c.args.address })
+entry c = (c.into_string.result, record { id = c.args.id; address = c.args.address })
 
-lists : (c : goal.In_ok-insert) → Lists (c.args.address - 1) c.args.number c.self.inside.addresses.entries c.list_at.new.addresses.entries
+lists : (c : goal.In_ok-insert) → Lists (c.args.address - 1) c.args.id c.self.inside.addresses.entries c.list_at.new.addresses.entries
 lists c = c.in_ok-list_at.ensures
 
 pushed : (c : goal.In_ok-insert) → c.insert.new.self.entries ≡ c.self.inside.queues.entries ++ entry c ∷ []
@@ -30,11 +30,11 @@ invariant_of-result c =
 
 pub returns-clause-addresses : goal.returns-clause-addresses
 returns-clause-addresses c =
-    names_listed (c.args.address - 1) c.args.number c.self.inside.addresses.entries c.list_at.new.addresses.entries (lists c) ∙ ap (λ (names : RouteNames). names.addresses) c.self.view_is
+    names_listed (c.args.address - 1) c.args.id c.self.inside.addresses.entries c.list_at.new.addresses.entries (lists c) ∙ ap (λ (names : RouteNames). names.addresses) c.self.view_is
 
 pub returns-clause-queues : goal.returns-clause-queues
 returns-clause-queues c =
     let qs = c.self.inside.queues.entries in
     ap (λ (rs : QueueEntries). map queue_of rs) (pushed c) ∙ map_push queue_of qs (entry c)
-    ∙ ap (λ (name : List ℕ). map queue_of qs ++ record { number = c.args.number; address = c.args.address; name = name } ∷ []) c.into_string.ensures
-    ∙ ap (λ (names : RouteNames). names.queues ++ record { number = c.args.number; address = c.args.address; name = c.args.name } ∷ []) c.self.view_is
+    ∙ ap (λ (name : List ℕ). map queue_of qs ++ record { id = c.args.id; address = c.args.address; name = name } ∷ []) c.into_string.ensures
+    ∙ ap (λ (names : RouteNames). names.queues ++ record { id = c.args.id; address = c.args.address; name = c.args.name } ∷ []) c.self.view_is

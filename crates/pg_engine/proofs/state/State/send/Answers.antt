@@ -5,7 +5,7 @@ use Rattle.pg_msg.specs.declared.reply.Reply.TheVariants.{No, Unrouted}
 use Rattle.pg_recover.specs.Broker.{sending}
 use Rattle.pg_engine.specs.declared.state.Outcome.TheVariants.{Unchanged}
 use Rattle.pg_engine.specs.Kept.{Kept, HasRoom, name_of_row, names_in}
-use Rattle.pg_engine.specs.Names.{IsId, RouteNames, address_named, numbers_at}
+use Rattle.pg_engine.specs.Names.{IsId, RouteNames, address_named, queue_ids_at}
 use Rattle.pg_engine.specs.Outcomes.{IsOutcome}
 use Rattle.pg_engine.proofs.EntryLemmas.{known_id, none_in, some_in}
 use Rattle.pg_engine.proofs.FitLemmas.{row, row_there, row_id}
@@ -30,8 +30,8 @@ returns-then-is_empty-clause-outcome c =
     let at = row d c.self.inside.routes c.self.inside.weights.items c.self.inside.drawn c.in-Some.address c.self.invariant known in
     let there = row_there d c.self.inside.routes c.self.inside.weights.items c.self.inside.drawn c.in-Some.address c.self.invariant known in
     let number = row_id d c.self.inside.routes c.self.inside.weights.items c.self.inside.drawn c.in-Some.address c.self.invariant known in
-    let numbers : c.numbers-numbers.result.now ≡ numbers_at c.in-Some.address (map name_of_row d.queues) = c.numbers-numbers.ensures ∙ ap (λ (n : RouteNames). numbers_at c.in-Some.address n.queues) c.self.invariant.named in
-    let none : [] ≡ numbers_at c.in-Some.address (map name_of_row d.queues) = sym (none_in c.numbers-numbers.result.now (sym c.is_empty.ensures ∙ c.if-is_empty.true)) ∙ numbers in
+    let numbers : c.numbers-numbers.result.now ≡ queue_ids_at c.in-Some.address (map name_of_row d.queues) = c.numbers-numbers.ensures ∙ ap (λ (n : RouteNames). queue_ids_at c.in-Some.address n.queues) c.self.invariant.named in
+    let none : [] ≡ queue_ids_at c.in-Some.address (map name_of_row d.queues) = sym (none_in c.numbers-numbers.result.now (sym c.is_empty.ensures ∙ c.if-is_empty.true)) ∙ numbers in
     subst (λ o. IsOutcome c.args.self (sending c.args.address c.args.body) o) (sym c.unchanged-then-is_empty.ensures)
     (subst (λ (k : Kept). IsOutcome k (sending c.args.address c.args.body) (Unchanged k Unrouted)) c.self.view_is
     (send_unrouted s c.args.address c.args.body c.in-Some.address found c.self.invariant.sound at there number none))
@@ -50,7 +50,7 @@ returns-then-self-clause-outcome c =
     let at = row d c.self.inside.routes c.self.inside.weights.items c.self.inside.drawn c.in-Some.address c.self.invariant known in
     let there = row_there d c.self.inside.routes c.self.inside.weights.items c.self.inside.drawn c.in-Some.address c.self.invariant known in
     let number = row_id d c.self.inside.routes c.self.inside.weights.items c.self.inside.drawn c.in-Some.address c.self.invariant known in
-    let numbers : c.numbers-numbers.result.now ≡ numbers_at c.in-Some.address (map name_of_row d.queues) = c.numbers-numbers.ensures ∙ ap (λ (n : RouteNames). numbers_at c.in-Some.address n.queues) c.self.invariant.named in
+    let numbers : c.numbers-numbers.result.now ≡ queue_ids_at c.in-Some.address (map name_of_row d.queues) = c.numbers-numbers.ensures ∙ ap (λ (n : RouteNames). queue_ids_at c.in-Some.address n.queues) c.self.invariant.named in
     let some : c.numbers-numbers.result.now ≢ [] = some_in c.numbers-numbers.result.now (sym c.is_empty.ensures ∙ c.if-is_empty.false) in
     subst (λ o. IsOutcome c.args.self (sending c.args.address c.args.body) o) (sym c.unchanged-then-self.ensures)
     (subst (λ (k : Kept). IsOutcome k (sending c.args.address c.args.body) (Unchanged k (No Line))) c.self.view_is

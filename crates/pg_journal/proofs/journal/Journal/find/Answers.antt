@@ -2,9 +2,12 @@ use Rattle.std.proofs.Common.{[], subst}
 use Rattle.std.proofs.lemmas.Result.{err_from_is_err_and}
 use Rattle.pg_disk.specs.Account.{account, IsHonest}
 use Rattle.pg_disk.specs.Counts.{FaultCountsAs}
-use Rattle.pg_disk.proofs.Runs.{then_run}
+use Rattle.pg_disk.proofs.Composing.{then_run}
+use Rattle.pg_disk.specs.Image.{LeavesAt}
+use Rattle.pg_gate.specs.Gated.{Anyhow, HasNone, IsLaid, StandsFor}
+use Rattle.pg_journal.specs.Generations.{first_generation}
 use Rattle.pg_gate.specs.Spans.{payload_bytes}
-use Rattle.pg_journal.specs.Looks.{TakesWithin}
+use Rattle.pg_journal.specs.Looks.{LeavesJournal, TakesWithin}
 use Rattle.pg_journal.proofs.Taken.{on_err, taken_before}
 use Rattle.pg_journal.proofs.Finding.{listed_stays, in_listing, in_scans, laying_leaves, listed_then, none_before, none_found, some_found, then_laid, all_laid, listed_found, listing_taken, listing_kept, cut_listed, kept_listed}
 use Rattle.pg_journal.proofs.journal.Journal.find.Goals as goal
@@ -13,20 +16,20 @@ pub returns-in_err-generations-clause-stays : goal.returns-in_err-generations-cl
 returns-in_err-generations-clause-stays g c = listed_stays (g.D.Disk.tells c.args.disk.now) (g.D.Disk.tells c.generations.new.disk) c.generations.ensures.same
 
 pub returns-in_err-generations-clause-any_moment : goal.returns-in_err-generations-clause-any_moment
-returns-in_err-generations-clause-any_moment g c = in_listing g.D.Disk.moment g.D.Disk.left_since g.D.Disk.tells c.args.disk.now c.generations.new.disk c.generations.ensures.any_moment
+returns-in_err-generations-clause-any_moment g c = in_listing g.D.Disk c.args.disk.now c.generations.new.disk c.generations.ensures.any_moment
 
 pub returns-in_err-found-clause-any_moment : goal.returns-in_err-found-clause-any_moment
 returns-in_err-found-clause-any_moment g c =
-    in_scans g.D.Disk.moment g.D.Disk.left_since g.D.Disk.tells c.args.disk.now c.generations.new.disk c.generations.ensures.any_moment c.generations.ensures.same c.scan_back.new.disk c.scan_back.ensures.any_moment
+    in_scans g.D.Disk c.args.disk.now c.generations.new.disk c.generations.ensures.any_moment c.generations.ensures.same c.scan_back.new.disk c.scan_back.ensures.any_moment
 
 pub returns-in-Some-clause-any_moment : goal.returns-in-Some-clause-any_moment
 returns-in-Some-clause-any_moment g c =
-    in_scans g.D.Disk.moment g.D.Disk.left_since g.D.Disk.tells c.args.disk.now c.generations.new.disk c.generations.ensures.any_moment c.generations.ensures.same c.scan_back.new.disk c.scan_back.ensures.any_moment
+    in_scans g.D.Disk c.args.disk.now c.generations.new.disk c.generations.ensures.any_moment c.generations.ensures.same c.scan_back.new.disk c.scan_back.ensures.any_moment
 
 pub returns-in_err-rest-clause-any_moment : goal.returns-in_err-rest-clause-any_moment
 returns-in_err-rest-clause-any_moment g c =
-    then_run g.D.Disk.moment g.D.Disk.left_since c.args.disk.now c.scan_back.new.disk c.lay.new.disk _ _
-    (in_scans g.D.Disk.moment g.D.Disk.left_since g.D.Disk.tells c.args.disk.now c.generations.new.disk c.generations.ensures.any_moment c.generations.ensures.same c.scan_back.new.disk c.scan_back.ensures.any_moment)
+    then_run g.D.Disk c.args.disk.now c.scan_back.new.disk c.lay.new.disk LeavesJournal (LeavesAt first_generation (λ _. HasNone))
+    (in_scans g.D.Disk c.args.disk.now c.generations.new.disk c.generations.ensures.any_moment c.generations.ensures.same c.scan_back.new.disk c.scan_back.ensures.any_moment)
     c.lay.ensures.any_moment
     (laying_leaves (g.D.Disk.tells c.args.disk.now) (g.D.Disk.tells c.scan_back.new.disk)
     (listed_then (g.D.Disk.tells c.args.disk.now) (g.D.Disk.tells c.generations.new.disk) (g.D.Disk.tells c.scan_back.new.disk) c.generations.ensures.same c.scan_back.ensures.stays)
@@ -45,12 +48,12 @@ pub returns-clause-stays : goal.returns-clause-stays
 returns-clause-stays g c = then_laid (g.D.Disk.tells c.args.disk.now) (g.D.Disk.tells c.scan_back.new.disk)
     (listed_then (g.D.Disk.tells c.args.disk.now) (g.D.Disk.tells c.generations.new.disk) (g.D.Disk.tells c.scan_back.new.disk) c.generations.ensures.same c.scan_back.ensures.stays)
     (none_before (g.D.Disk.tells c.args.disk.now) (g.D.Disk.tells c.generations.new.disk) c.generations.ensures.same (λ honest. (none_found c.in_ok-found.field-0 _ _ c.in_default.is (c.in_ok-found.ensures.found honest)).0))
-    (λ honest. (none_found c.in_ok-found.field-0 _ _ c.in_default.is (c.in_ok-found.ensures.found (c.generations.ensures.same.kept honest))).1) (g.D.Disk.tells c.lay.new.disk) _ c.in_ok-rest.ensures.laid
+    (λ honest. (none_found c.in_ok-found.field-0 _ _ c.in_default.is (c.in_ok-found.ensures.found (c.generations.ensures.same.kept honest))).1) (g.D.Disk.tells c.lay.new.disk) (λ _ s. IsLaid s × StandsFor c.in_ok-rest.rest [] s) c.in_ok-rest.ensures.laid
 
 pub returns-clause-any_moment : goal.returns-clause-any_moment
 returns-clause-any_moment g c =
-    then_run g.D.Disk.moment g.D.Disk.left_since c.args.disk.now c.scan_back.new.disk c.lay.new.disk _ _
-    (in_scans g.D.Disk.moment g.D.Disk.left_since g.D.Disk.tells c.args.disk.now c.generations.new.disk c.generations.ensures.any_moment c.generations.ensures.same c.scan_back.new.disk c.scan_back.ensures.any_moment)
+    then_run g.D.Disk c.args.disk.now c.scan_back.new.disk c.lay.new.disk LeavesJournal (LeavesAt first_generation (λ _. HasNone))
+    (in_scans g.D.Disk c.args.disk.now c.generations.new.disk c.generations.ensures.any_moment c.generations.ensures.same c.scan_back.new.disk c.scan_back.ensures.any_moment)
     c.lay.ensures.any_moment
     (laying_leaves (g.D.Disk.tells c.args.disk.now) (g.D.Disk.tells c.scan_back.new.disk)
     (listed_then (g.D.Disk.tells c.args.disk.now) (g.D.Disk.tells c.generations.new.disk) (g.D.Disk.tells c.scan_back.new.disk) c.generations.ensures.same c.scan_back.ensures.stays)
@@ -114,7 +117,7 @@ pub returns-in-Some-clause-taken : goal.returns-in-Some-clause-taken
 returns-in-Some-clause-taken g c = taken_before (payload_bytes c.in-Some.found.1.items) (g.D.Disk.tells c.args.disk.now) (g.D.Disk.tells c.generations.new.disk) (account (g.D.Disk.tells c.scan_back.new.disk)) c.generations.ensures.same (λ honest. some_found c.in_ok-found.field-0 c.in-Some.found _ _ c.in-Some.is (c.in_ok-found.ensures.taken honest))
 
 pub returns-in_err-rest-clause-stays : goal.returns-in_err-rest-clause-stays
-returns-in_err-rest-clause-stays g c = then_laid (g.D.Disk.tells c.args.disk.now) (g.D.Disk.tells c.scan_back.new.disk) (listed_then (g.D.Disk.tells c.args.disk.now) (g.D.Disk.tells c.generations.new.disk) (g.D.Disk.tells c.scan_back.new.disk) c.generations.ensures.same c.scan_back.ensures.stays) (none_before (g.D.Disk.tells c.args.disk.now) (g.D.Disk.tells c.generations.new.disk) c.generations.ensures.same (λ honest. (none_found c.in_ok-found.field-0 _ _ c.in_default.is (c.in_ok-found.ensures.found honest)).0)) (λ honest. (none_found c.in_ok-found.field-0 _ _ c.in_default.is (c.in_ok-found.ensures.found (c.generations.ensures.same.kept honest))).1) (g.D.Disk.tells c.lay.new.disk) _ c.in_err-rest.ensures.other_files
+returns-in_err-rest-clause-stays g c = then_laid (g.D.Disk.tells c.args.disk.now) (g.D.Disk.tells c.scan_back.new.disk) (listed_then (g.D.Disk.tells c.args.disk.now) (g.D.Disk.tells c.generations.new.disk) (g.D.Disk.tells c.scan_back.new.disk) c.generations.ensures.same c.scan_back.ensures.stays) (none_before (g.D.Disk.tells c.args.disk.now) (g.D.Disk.tells c.generations.new.disk) c.generations.ensures.same (λ honest. (none_found c.in_ok-found.field-0 _ _ c.in_default.is (c.in_ok-found.ensures.found honest)).0)) (λ honest. (none_found c.in_ok-found.field-0 _ _ c.in_default.is (c.in_ok-found.ensures.found (c.generations.ensures.same.kept honest))).1) (g.D.Disk.tells c.lay.new.disk) Anyhow c.in_err-rest.ensures.other_files
 
 pub returns-in_err-rest-clause-damaged : goal.returns-in_err-rest-clause-damaged
 returns-in_err-rest-clause-damaged g c =
