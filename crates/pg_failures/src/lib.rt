@@ -7,3 +7,5 @@ mod crashes;
 mod failing;
 #[cfg(test)]
 mod full_counts;
+#[cfg(test)]
+mod pending;

@@ -1,5 +1,9 @@
-//! Runs over the files that an earlier run left, or a crash, or somebody else.
+//! Runs over what an earlier run or a crash left.
 #![tactic(auto)]
 
 #[cfg(test)]
+mod generations;
+#[cfg(test)]
 mod openings;
+#[cfg(test)]
+mod queue_ids;

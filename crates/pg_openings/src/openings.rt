@@ -5,7 +5,7 @@ use std::alloc::{AllocError, Global};
 use std::test::Fail;
 
 /// The second generation of the journal.
-const SECOND: FileId = FileId {
+pub(crate) const SECOND: FileId = FileId {
     kind: Kind::Journal,
     owner: 0,
     number: 2,
@@ -26,7 +26,7 @@ const PAGE: FileId = FileId {
 };
 
 /// The journal of a broker that was opened once, and of one that was opened twice.
-const ONCE: &[u8] = b"\x01\0\0\0\0\0\0\0\x05\x01\0\0\0\x01\0";
+pub(crate) const ONCE: &[u8] = b"\x01\0\0\0\0\0\0\0\x05\x01\0\0\0\x01\0";
 
 const TWICE: &[u8] = b"\x01\0\0\0\0\0\0\0\x05\x01\0\0\0\x01\x01\0\0\0\0\0\0\0\x05\x01\0\0\0\x02\0";
 
@@ -47,12 +47,12 @@ const NO_ENTRY: &[u8] = b"\x01\0\0\0\0\0\0\0\x01\xff\0";
 const CUT: &[u8] = b"\x01\0\0\0\0\0\0\0\x05\x01\0";
 
 /// Files with their bytes.
-type Contents = &'static [(FileId, &'static [u8])];
+pub(crate) type Contents = &'static [(FileId, &'static [u8])];
 
 /// A folder that was opened once.
 const OPENED_ONCE: Contents = &[(JOURNAL, ONCE)];
 
-fn site_of(alloc: Global, files: Contents) -> Result<MemSite, AllocError> {
+pub(crate) fn site_of(alloc: Global, files: Contents) -> Result<MemSite, AllocError> {
     let mut site = MemSite::new(alloc);
     for (file, bytes) in files {
         site.put(*file, *bytes)?;
@@ -67,7 +67,11 @@ fn stopped(alloc: Global, stop: u64, pick: Pick) -> Result<Option<MemSite>, Allo
     crash_at(&site, stop, pick)
 }
 
-fn crash_at(site: &MemSite, stop: u64, pick: Pick) -> Result<Option<MemSite>, AllocError> {
+pub(crate) fn crash_at(
+    site: &MemSite,
+    stop: u64,
+    pick: Pick,
+) -> Result<Option<MemSite>, AllocError> {
     if stop == 0 || stop > site.calls() {
         return Ok(None);
     }
@@ -276,7 +280,7 @@ fn a_third_write_that_fails_ends_the_run(rt: HostRuntime) -> Result<(), Fail> {
     Ok(())
 }
 
-const PICKS: [Pick; 5] = [
+pub(crate) const PICKS: [Pick; 5] = [
     Pick::Old,
     Pick::New,
     Pick::Fill(0),

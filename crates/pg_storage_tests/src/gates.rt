@@ -6,7 +6,7 @@ ghost use Rattle.pg_disk.specs.Image.{IsFileThere};
 
 use pg_bytes::Octets;
 use pg_disk::{CallKind, Damage, Disk, Failed, Fault, FileId, Kind, MemSite, Pick, Rule};
-use pg_gate::{Span, lay, peek, read_span, scan};
+use pg_gate::{Span, lay, peek, read_span, scan, span_behind};
 use std::alloc::{AllocError, Global};
 use std::test::Fail;
 
@@ -141,6 +141,69 @@ fn are_payloads_read(alloc: Global) -> Result<bool, Failed> {
 #[test]
 fn reads_payloads(rt: HostRuntime) -> Result<(), Fail> {
     assert!(rt; are_payloads_read(rt.alloc())?);
+    Ok(())
+}
+
+// The bytes of a file, the offset of a gate, and the place behind it, or that no whole batch stands there.
+type GateCase<'a> = (&'a [u8], u64, Result<Option<Span>, ()>);
+
+const GATES: [GateCase<'static>; 9] = [
+    (TWO, 0, Ok(Some(Span { at: 9, length: 2 }))),
+    (TWO, 11, Ok(Some(Span { at: 20, length: 0 }))),
+    (TWO, 20, Ok(None)),
+    (TWO, 21, Ok(None)),
+    (b"", 0, Ok(None)),
+    (b"\x01", 0, Ok(None)),
+    (b"\x07\0\0\0\0\0\0\0\x01x\0", 0, Ok(None)),
+    (b"\x01\0\0\0\0\0\0\0\x02hi", 0, Err(())),
+    (b"\x01\0\0\0\0\0\0\0\x02hi\x01\0\0", 11, Err(())),
+];
+
+// The place behind the gate at this offset.
+fn place_behind<D: Disk>(disk: &mut D, gate: u64) -> Result<Option<Span>, Fault>
+    requires { IsHonest (D.tells disk.old) → IsFileThere PAGE (account (D.tells disk.old)).files }
+{
+    let end = disk.length(PAGE)?;
+    span_behind(disk, PAGE, gate, end)
+}
+
+// What is answered of the gate in a file of these bytes, and how many calls the site had by then.
+fn place_in(
+    alloc: Global,
+    bytes: &[u8],
+    gate: u64,
+) -> Result<(Result<Option<Span>, Fault>, u64), Failed> {
+    let mut site = MemSite::new(alloc);
+    make(&mut site, bytes)?;
+    let got = place_behind(&mut site, gate);
+    Ok((got, site.calls()))
+}
+
+// Whether the place behind the gate is answered as it is to be, by one call for the length and at most one that reads.
+fn is_placed(alloc: Global, case: GateCase<'_>) -> Result<bool, Failed> {
+    let (bytes, gate, want) = case;
+    let (got, calls) = place_in(alloc, bytes, gate)?;
+    let is_right = match (got, want) {
+        (Ok(span), Ok(want)) => span == want,
+        (Err(Fault::Damaged(damage)), Err(())) => damage == cut(gate),
+        _ => false,
+    };
+    Ok(is_right && calls <= 5)
+}
+
+// The first gate behind which another place is answered.
+fn wrong_gate(alloc: Global) -> Result<Option<usize>, Failed> {
+    for (place, case) in GATES.iter().enumerate() {
+        if !is_placed(alloc, *case)? {
+            return Ok(Some(place));
+        }
+    }
+    Ok(None)
+}
+
+#[test]
+fn answers_the_place_behind_a_gate(rt: HostRuntime) -> Result<(), Fail> {
+    assert!(rt; wrong_gate(rt.alloc())? == None);
     Ok(())
 }
 
