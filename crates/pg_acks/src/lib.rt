@@ -1,0 +1,6 @@
+//! Positions of messages in pages.
+#![tactic(auto)]
+
+mod position;
+
+pub use position::Position;

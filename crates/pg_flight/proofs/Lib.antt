@@ -1,0 +1,3 @@
+pub mod DeliveryLaws
+pub mod Keyed
+pub mod Seen

@@ -1,0 +1,11 @@
+//! Deliveries in flight: which consumer was given which message, and has neither acknowledged nor cancelled it.
+#![tactic(auto)]
+
+mod deliveries;
+mod delivery;
+mod flights;
+mod laws;
+
+pub use delivery::Delivery;
+pub use flights::Flights;
+pub use laws::found_by_message;

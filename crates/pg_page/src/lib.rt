@@ -1,0 +1,6 @@
+//! Places of messages in page files.
+#![tactic(auto)]
+
+mod place;
+
+pub use place::Place;
