@@ -1,0 +1,9 @@
+pub mod FirstToken
+pub mod LastCharacter
+pub mod QuoteLemmas
+pub mod ReadSoFar
+pub mod Runs
+pub mod SpellingLaws
+pub mod TokenLaws
+pub mod WholeLemmas
+pub mod WordLemmas

@@ -1,0 +1,9 @@
+pub mod Chains
+pub mod FilterLaws
+pub mod Languages
+pub mod Leaves
+pub mod Phrases
+pub mod Tails
+pub mod Unambiguous
+pub mod Whole
+pub mod Words
