@@ -3,7 +3,7 @@ use Rattle.std.specs.Prelude.{◌≡◌, ◌≢◌, ◌⊎◌, ◌≤◌, ◌<�
 use Rattle.std.specs.Prelude.{Option, Some, None, true, false}
 use Rattle.std.specs.Int.{to_be_bytes, w64}
 use Rattle.pg_disk.specs.declared.fault.Fault.{Fault}
-use Rattle.pg_disk.specs.declared.fault.Fault.TheVariants.{Failed, Spent}
+use Rattle.pg_disk.specs.declared.fault.Fault.TheVariants.{Failed, Spent, Memory}
 use Rattle.pg_disk.specs.declared.file_id.FileId.{FileId}
 use Rattle.pg_disk.specs.Account.{FileState, IsQuiet}
 use Rattle.pg_disk.specs.Image.{IsIn}
@@ -163,3 +163,7 @@ payload_length filling = filling.length
 -- the disk failed, or the file would grow too long
 abbrev pub IsFailedOrSpent : Fault → Type 0
 IsFailedOrSpent fault = (fault ≡ Failed) ⊎ (fault ≡ Spent)
+
+-- the disk failed, the file would grow too long, or there was no memory
+abbrev pub IsUndamaged : Fault → Type 0
+IsUndamaged fault = (fault ≡ Failed) ⊎ ((fault ≡ Spent) ⊎ (fault ≡ Memory))

@@ -4,6 +4,7 @@ ghost use Rattle.std.specs.Prelude.{◌<◌, ◌+◌, ◌^◌};
 use crate::Filling;
 use crate::small::{SMALL, append_small};
 use pg_disk::{Disk, Fault, FileId};
+use std::alloc::Global;
 
 /// No gated file grows past this many bytes. One that is longer already is read, and doesn't grow.
 pub(crate) const LIMIT: u64 = 1 << 62;
@@ -19,13 +20,13 @@ pub struct Rest {
 }
 
 impl Rest {
-    ghost use Rattle.std.specs.Prelude.{◌≡◌, ◌<◌, ◌+◌, ◌^◌, ◌↔◌, [], ◌∷◌, ◌++◌, length, IfOk, IfErr, IsErrOf};
+    ghost use Rattle.std.specs.Prelude.{◌≡◌, ◌⊎◌, ◌<◌, ◌≤◌, ◌+◌, ◌^◌, ◌↔◌, [], ◌∷◌, ◌++◌, length, IfOk, IfErr, IsErrOf};
     ghost use Rattle.pg_disk.specs.Calls.{ChangesFile, Rewrites};
     ghost use Rattle.pg_disk.specs.Counts.{CountsFault};
     ghost use Rattle.pg_disk.specs.Image.{LeavesAt};
     ghost use Rattle.pg_disk.specs.Moments.{Within};
     ghost use Rattle.pg_disk.specs.Sites.{OnFile, Steps};
-    ghost use Rattle.pg_gate.specs.Gated.{Fills, IsFailedOrSpent, MayGrow, StandsClosed, StandsFor};
+    ghost use Rattle.pg_gate.specs.Gated.{Fills, IsFailedOrSpent, IsUndamaged, MayGrow, StandsClosed, StandsFor};
     ghost use Rattle.pg_gate.specs.Gated.{file_of, gate_of, counted_length};
     ghost use Rattle.pg_gate.specs.Gated.{file_filled, counted_before, payload_length};
 
@@ -83,9 +84,51 @@ impl Rest {
             return Err(Fault::Spent);
         }
         if batch.len() <= SMALL {
-            return Ok(append_small(self, disk, batch)?);
+            let mut buffer = [0u8; 4096];
+            return Ok(append_small(self, disk, batch, &mut buffer)?);
         }
         let filling = self.begin().add(disk, batch)?;
         filling.seal(disk)
+    }
+
+    /// Adds a batch as `append` does, in one write behind the closed gate however long the batch is, which takes memory
+    /// for its bytes and 9 more. `Spent` and `Memory` come before any call of the disk.
+    pub fn append_at_once<D: Disk>(
+        self,
+        alloc: Global,
+        disk: &mut D,
+        batch: &[u8],
+    ) -> Result<Rest, Fault>
+        requires { OnFile D.Disk disk.old (file_of self) (λ s. (batches : _) × StandsFor self batches s) }
+        ensures file { IfOk result (λ next. file_of next ≡ file_of self) }
+        ensures grown { IfOk result (λ next. counted_length next ≡ counted_length self + length batch.now + 9) }
+        ensures appended { IfOk result (λ next. Steps D.Disk disk.old disk.new
+            (ChangesFile (file_of self) (λ s t.
+            (batches : _) → StandsFor self batches s → StandsClosed next (batches ++ batch.now ∷ []) t))) }
+        ensures all_else { Steps D.Disk disk.old disk.new
+            (ChangesFile (file_of self) (Rewrites (gate_of self) (counted_length self + length batch.now + 9))) }
+        ensures any_moment { Within D.Disk disk.old disk.new (LeavesAt (file_of self) (MayGrow self batch.now)) }
+
+        ensures spent { IsErrOf result Fault.Spent ↔ (2 ^ 62 < counted_length self + length batch.now + 9) }
+        ensures untouched { IsErrOf result Fault.Spent ⊎ IsErrOf result Fault.Memory → disk.new ≡ disk.old }
+        ensures only { IfErr result IsUndamaged }
+        ensures cause { CountsFault (D.faults disk.old) (D.faults disk.new) result }
+    {
+        let mut buffer = self.buffer_for(alloc, batch.len())?;
+        Ok(append_small(self, disk, batch, &mut buffer)?)
+    }
+
+    // Room for a batch of so many bytes, its length and the next gate, where the file has that room too.
+    fn buffer_for(&self, alloc: Global, count: usize) -> Result<Vec<u8>, Fault>
+        ensures room { IfOk result (λ buffer. length buffer.items ≡ count + 9) }
+        ensures in_file { IfOk result (λ _. counted_length self.now + count + 9 ≤ 2 ^ 62) }
+        ensures spent { IsErrOf result Fault.Spent ↔ (2 ^ 62 < counted_length self.now + count + 9) }
+        ensures only { IfErr result (λ fault. (fault ≡ Fault.Spent) ⊎ (fault ≡ Fault.Memory)) }
+    {
+        let end = self.length().saturating_add(9);
+        if end > LIMIT || count as u64 > LIMIT - end {
+            return Err(Fault::Spent);
+        }
+        Ok(vec![in alloc; 0; count + 9]?)
     }
 }

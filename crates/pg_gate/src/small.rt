@@ -1,4 +1,4 @@
-// A short batch is written with its length and the next closed gate in one write.
+// A batch that a buffer has room for is written with its length and the next closed gate in one write.
 ghost use Rattle.std.specs.Prelude.{◌≡◌, ◌≤◌, ◌+◌, ◌^◌, [], ◌∷◌, ◌++◌, length, take, IfOk, OnOk};
 ghost use Rattle.std.specs.Int.{to_be_bytes, w64};
 ghost use Rattle.pg_disk.specs.Calls.{ChangesFile, Rewrites};
@@ -13,8 +13,8 @@ use crate::Rest;
 use crate::steps::open;
 use pg_disk::{Disk, Failed};
 
-/// The greatest length of a batch that is written at once, in bytes: with its length and the next gate it fills a
-/// buffer of 4096 bytes.
+/// The greatest length of a batch that is written at once without memory, in bytes: with its length and the next gate
+/// it fills a buffer of 4096 bytes.
 pub(crate) const SMALL: usize = 4087;
 
 // Puts the batch's length, the batch and a closed gate at the buffer's front.
@@ -32,9 +32,14 @@ fn fill(buffer: &mut [u8], batch: &[u8])
 
 // Writes the length, the batch and the next closed gate behind the closed gate, and syncs: the batch is whole, and
 // doesn't count.
-fn stage_small<D: Disk>(rest: &Rest, disk: &mut D, batch: &[u8]) -> Result<(), Failed>
+fn stage_small<D: Disk>(
+    rest: &Rest,
+    disk: &mut D,
+    batch: &[u8],
+    buffer: &mut [u8],
+) -> Result<(), Failed>
     requires stands { OnFile D.Disk disk.old rest.now.file (λ s. (batches : _) × StandsFor rest.now batches s) }
-    requires short { length batch.now ≤ 4087 }
+    requires short { length batch.now + 9 ≤ length buffer.old }
     ensures staged { OnOk result (Steps D.Disk disk.old disk.new
         (ChangesFile rest.now.file (λ s t.
         (batches : _) → StandsFor rest.now batches s → Stages rest.now.gate batches batch.now t))) }
@@ -43,16 +48,20 @@ fn stage_small<D: Disk>(rest: &Rest, disk: &mut D, batch: &[u8]) -> Result<(), F
     ensures any_moment { Within D.Disk disk.old disk.new (LeavesAt rest.now.file (KeepsAll rest.now)) }
     ensures cause { CountsDisk (D.faults disk.old) (D.faults disk.new) result }
 {
-    let mut buffer = [0u8; 4096];
-    fill(&mut buffer, batch);
+    fill(buffer, batch);
     disk.write(rest.file, rest.gate + 1, &buffer[..8 + batch.len() + 1])?;
     disk.sync(rest.file)
 }
 
-// Adds a short batch to a file that has room for it.
-pub(crate) fn append_small<D: Disk>(rest: Rest, disk: &mut D, batch: &[u8]) -> Result<Rest, Failed>
+// Adds a batch that the buffer has room for to a file that has room for it too.
+pub(crate) fn append_small<D: Disk>(
+    rest: Rest,
+    disk: &mut D,
+    batch: &[u8],
+    buffer: &mut [u8],
+) -> Result<Rest, Failed>
     requires stands { OnFile D.Disk disk.old (file_of rest) (λ s. (batches : _) × StandsFor rest batches s) }
-    requires short { length batch.now ≤ 4087 }
+    requires short { length batch.now + 9 ≤ length buffer.old }
     requires room { counted_length rest + length batch.now + 9 ≤ 2 ^ 62 }
     ensures file { IfOk result (λ next. file_of next ≡ file_of rest) }
     ensures grown { IfOk result (λ next. counted_length next ≡ counted_length rest + length batch.now + 9) }
@@ -64,7 +73,7 @@ pub(crate) fn append_small<D: Disk>(rest: Rest, disk: &mut D, batch: &[u8]) -> R
     ensures any_moment { Within D.Disk disk.old disk.new (LeavesAt (file_of rest) (MayGrow rest batch.now)) }
     ensures cause { CountsDisk (D.faults disk.old) (D.faults disk.new) result }
 {
-    stage_small(&rest, disk, batch)?;
+    stage_small(&rest, disk, batch, buffer)?;
     open(rest.file, rest.gate, disk)?;
     Ok(Rest {
         file: rest.file,

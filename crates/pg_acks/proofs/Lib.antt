@@ -1,0 +1,6 @@
+pub mod Keys
+pub mod SameSets
+pub mod Joining
+pub mod Ordering
+pub mod Seeing
+pub mod Writing

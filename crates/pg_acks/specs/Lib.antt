@@ -1,0 +1,3 @@
+pub mod Acked
+pub mod Kept
+pub mod Runs

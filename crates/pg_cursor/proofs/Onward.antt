@@ -1,0 +1,122 @@
+-- The next place on a page, and what stands there.
+use Rattle.std.proofs.Common.{◌≡◌, ◌<◌, ◌≤◌, ◌^◌, ℕ, true, false, List, [], ◌∷◌, ◌++◌, length, Option, Some, None, Result, Ok, Err, IfOk, Bool, IsTrue, ◌↔◌, refl, sym, ◌∙◌, ap, subst, inl, arith, length-append}
+use Rattle.std.specs.FinMap.{FinMap, get}
+use Rattle.std.proofs.lemmas.Option.{slice_get_within}
+use Rattle.pg_acks.specs.Acked.{AckSets, is_acknowledged}
+use Rattle.pg_disk.specs.Account.{Account, FileState, IsHonest, account}
+use Rattle.pg_disk.specs.Calls.{Changes, Reads}
+use Rattle.pg_disk.specs.Image.{IsFileThere}
+use Rattle.pg_disk.specs.Files.{file_cmp}
+use Rattle.pg_disk.specs.Views.{as_read, bytes_of}
+use Rattle.pg_gate.specs.Gated.{Batches}
+use Rattle.pg_gate.specs.Spans.{AsRead}
+use Rattle.pg_gate.proofs.Reading.{as_read_before}
+use Rattle.pg_page.specs.declared.frame.Frame.{Frame}
+use Rattle.pg_page.specs.declared.place.Place.{Place}
+use Rattle.pg_page.specs.Frames.{SpellsFrame}
+use Rattle.pg_page.specs.Pages.{Pages, page_file, pages_of}
+use Rattle.pg_page.specs.Places.{IsAt, IsNextPlace}
+use Rattle.pg_page.proofs.FrameLaws.{same_frame}
+use Rattle.pg_page.proofs.PageLaws.{batch_at}
+use Rattle.pg_pagetx.specs.Standings.{Transactions}
+use Rattle.pg_cursor.specs.declared.tail.Tail.{Tail}
+use Rattle.pg_cursor.specs.declared.tail.Tail.TheVariants.{Begin, Behind}
+use Rattle.pg_cursor.specs.Entries.{FrameCounts, HasFrame, IsLive, StandsOn, names}
+use Rattle.pg_cursor.specs.Places.{page_of}
+use Rattle.pg_cursor.specs.Walking.{IsNext, TailStands}
+
+some_bytes : (a b : List ℕ) → Some a ≡ Some b → a ≡ b
+some_bytes a b e = cc
+
+-- what a page that is there reads as
+pub page_reads : (files : FinMap file_cmp FileState) (address page : ℕ) (s : FileState) → get files (page_file address page) ≡ Some s → pages_of (as_read files) address page ≡ Some s.bytes
+page_reads files address page s there = ap bytes_of there
+
+-- no place stands behind all batches of a page
+none_behind : (pages : Pages) (bytes : List ℕ) (batches : List (List ℕ)) (place : Place) → pages place.position.page ≡ Some bytes → Batches bytes batches → StandsOn pages place → place.position.index < length batches
+none_behind pages bytes batches place there are stands =
+    let one : stands.bytes ≡ bytes = some_bytes stands.bytes bytes (sym stands.there ∙ there) in
+    let short : length bytes < 2 ^ 64 = subst (λ (l : List ℕ). length l < 2 ^ 64) one stands.short in
+    let at : IsAt bytes place stands.is.0 stands.is.1 = subst (λ (l : List ℕ). IsAt l place stands.is.0 stands.is.1) one stands.is.2 in
+    slice_get_within batches place.position.index stands.is.1 (batch_at bytes place stands.is.0 stands.is.1 batches short at are)
+
+pub first_onward : (pages : Pages) (page : ℕ) (bytes : List ℕ) (next : Option Place) → pages page ≡ Some bytes → length bytes < 2 ^ 64 → IsNextPlace bytes page [] next → IsNext (Begin page) next pages
+first_onward pages page bytes None there short is = λ place stands on. none_behind pages bytes [] place (ap pages on ∙ there) is stands
+first_onward pages page bytes (Some place) there short is = (
+  record { bytes = bytes; there = ap pages is.0 ∙ there; short = short; is = ([], is.1.0, is.1.1) },
+  is.0,
+  is.1.1.index,
+)
+
+pub later_onward : (pages : Pages) (after : Place) (bytes : List ℕ) (next : Option Place) → pages after.position.page ≡ Some bytes
+    → ((before : List (List ℕ)) (payload : List ℕ) → IsAt bytes after before payload → IsNextPlace bytes after.position.page (before ++ payload ∷ []) next) → StandsOn pages after → IsNext (Behind after) next pages
+later_onward pages after bytes next there tells stands =
+    let one : stands.bytes ≡ bytes = some_bytes stands.bytes bytes (sym stands.there ∙ there) in
+    let at : IsAt bytes after stands.is.0 stands.is.1 = subst (λ (l : List ℕ). IsAt l after stands.is.0 stands.is.1) one stands.is.2 in
+    go next (subst (λ (l : List ℕ). length l < 2 ^ 64) one stands.short) stands.is.0 stands.is.1 at (tells stands.is.0 stands.is.1 at)
+  where
+    go : (next : Option Place) → length bytes < 2 ^ 64 → (before : List (List ℕ)) (payload : List ℕ) → IsAt bytes after before payload → IsNextPlace bytes after.position.page (before ++ payload ∷ []) next → IsNext (Behind after) next pages
+    go None short before payload at is = λ place stands on.
+        let within = none_behind pages bytes (before ++ payload ∷ []) place (ap pages on ∙ there) is stands in
+        omega (arith, within, at.index, length-append before (payload ∷ []))
+    go (Some place) short before payload at is = (
+      record { bytes = bytes; there = ap pages is.0 ∙ there; short = short; is = (before ++ payload ∷ [], is.1.0, is.1.1) },
+      is.0,
+      omega (arith, is.1.1.index, at.index, length-append before (payload ∷ [])),
+    )
+
+-- the frame that was read at a place is what stands there
+module _ (pages : Pages) (place : Place) (bytes : List ℕ) (frame : Frame) (there : pages place.position.page ≡ Some bytes) (reads : (before : List (List ℕ)) (payload : List ℕ) → IsAt bytes place before payload → SpellsFrame payload frame) where
+  pub frame_there : StandsOn pages place → HasFrame pages place frame
+  frame_there stands =
+      let one : stands.bytes ≡ bytes = some_bytes stands.bytes bytes (sym stands.there ∙ there) in
+      let at : IsAt bytes place stands.is.0 stands.is.1 = subst (λ (l : List ℕ). IsAt l place stands.is.0 stands.is.1) one stands.is.2 in
+      record { bytes = bytes; there = there; short = subst (λ (l : List ℕ). length l < 2 ^ 64) one stands.short; before = stands.is.0; payload = stands.is.1; at = at; spelled = reads stands.is.0 stands.is.1 at }
+
+  pub frame_only : (other : Frame) → HasFrame pages place other → other ≡ frame
+  frame_only other has =
+      let one : has.bytes ≡ bytes = some_bytes has.bytes bytes (sym has.there ∙ there) in
+      same_frame has.payload other frame has.spelled (reads has.before has.payload (subst (λ (l : List ℕ). IsAt l place has.before has.payload) one has.at))
+
+-- the same of the calls that read
+module _ (old : Option Account) (address : ℕ) where
+  module _ (page : ℕ) (there : IsHonest old → IsFileThere (page_file address page) (account old).files) where
+    pub none_short : (end : ℕ) → AsRead (page_file address page) old (λ bytes. end ≡ length bytes) → end ≤ 1 → IsHonest old → IsNext (Begin page) None (pages_of (as_read (account old).files) address)
+    none_short end size few h =
+        let is = there h in
+        let long = size h is.0 is.1 in
+        first_onward (pages_of (as_read (account old).files) address) page is.0.bytes None (page_reads (account old).files address page is.0 is.1) (omega (arith, long, few)) (inl (omega (arith, long, few), refl))
+
+    pub first_answer : {E : Type 0} (mid : Option Account) (n end : ℕ) (result : Result (Option Place) E) → Changes old mid (Reads n) → AsRead (page_file address page) old (λ bytes. end ≡ length bytes) → end < 2 ^ 64
+        → IfOk result (λ next. AsRead (page_file address page) mid (λ bytes. IsNextPlace bytes page [] next)) → IfOk result (λ next. IsHonest old → IsNext (Begin page) next (pages_of (as_read (account old).files) address))
+    first_answer mid n end (Ok next) change size small tells = λ h.
+        let is = there h in
+        let long = size h is.0 is.1 in
+        first_onward (pages_of (as_read (account old).files) address) page is.0.bytes next (page_reads (account old).files address page is.0 is.1) (omega (arith, long, small))
+        (as_read_before (page_file address page) old mid n (λ bytes. IsNextPlace bytes page [] next) change tells h is.0 is.1)
+    first_answer mid n end (Err e) change size small tells = tt
+
+  pub later_answer : {E : Type 0} (tail : Tail) (after : Place) (result : Result (Option Place) E) → tail ≡ Behind after → (IsHonest old → IsFileThere (page_file address (page_of tail)) (account old).files) → (IsHonest old → TailStands tail (pages_of (as_read (account old).files) address))
+      → IfOk result (λ next. AsRead (page_file address after.position.page) old (λ bytes. (before : List (List ℕ)) (payload : List ℕ) → IsAt bytes after before payload → IsNextPlace bytes after.position.page (before ++ payload ∷ []) next))
+      → IfOk result (λ next. IsHonest old → IsNext tail next (pages_of (as_read (account old).files) address))
+  later_answer tail after (Ok next) same there stands tells = λ h.
+      let is : IsFileThere (page_file address after.position.page) (account old).files = subst (λ (t : Tail). IsFileThere (page_file address (page_of t)) (account old).files) same (there h) in
+      subst (λ (t : Tail). IsNext t next (pages_of (as_read (account old).files) address)) (sym same)
+      (later_onward (pages_of (as_read (account old).files) address) after is.0.bytes next (page_reads (account old).files address after.position.page is.0 is.1) (tells h is.0 is.1)
+      (subst (λ (t : Tail). TailStands t (pages_of (as_read (account old).files) address)) same (stands h)))
+  later_answer tail after (Err e) same there stands tells = tt
+
+  -- whether the frame that was read is an entry
+  pub live_answer : (queue : ℕ) (acks : AckSets) (txs : Transactions) (place : Place) (frame : Frame) (result : Bool) → (IsHonest old → IsFileThere (page_file address place.position.page) (account old).files)
+      → (IsHonest old → StandsOn (pages_of (as_read (account old).files) address) place) → is_acknowledged acks queue place.position ≡ false
+      → AsRead (page_file address place.position.page) old (λ bytes. (before : List (List ℕ)) (payload : List ℕ) → IsAt bytes place before payload → SpellsFrame payload frame)
+      → (IsTrue result ↔ ((names queue frame ≡ true) × FrameCounts txs frame.tx)) → IsHonest old → IsTrue result ↔ IsLive queue acks txs (pages_of (as_read (account old).files) address) place
+  live_answer queue acks txs place frame result there stands open_ tells entry h =
+      let is = there h in
+      let pages : Pages = pages_of (as_read (account old).files) address in
+      let reads = page_reads (account old).files address place.position.page is.0 is.1 in (
+        λ yes. record { entry = record { frame = frame; has = frame_there pages place is.0.bytes frame reads (tells h is.0 is.1) (stands h); named = (entry.0 yes).0; counts = (entry.0 yes).1 }; open_ = open_ },
+        λ live.
+            let one = frame_only pages place is.0.bytes frame reads (tells h is.0 is.1) live.entry.frame live.entry.has in
+            entry.1 (subst (λ (f : Frame). (names queue f ≡ true) × FrameCounts txs f.tx) one (live.entry.named, live.entry.counts)),
+      )

@@ -1,0 +1,5 @@
+pub mod Entries
+pub mod Kept
+pub mod Places
+pub mod Tracking
+pub mod Walking

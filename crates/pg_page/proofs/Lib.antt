@@ -1,0 +1,9 @@
+pub mod FaultLaws
+pub mod FrameLaws
+pub mod OpeningLaws
+pub mod PageLaws
+pub mod PayloadLaws
+pub mod PlaceLaws
+pub mod ReadLaws
+pub mod Stepping
+pub mod WritingLaws

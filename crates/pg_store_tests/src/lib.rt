@@ -1,0 +1,7 @@
+//! Paging states, through the public calls alone.
+#![tactic(auto)]
+
+#[cfg(test)]
+mod opened;
+#[cfg(test)]
+mod sends;
