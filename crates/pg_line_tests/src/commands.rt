@@ -1,29 +1,8 @@
-use pg_msg::Command;
-use pg_text::parse_line;
-use std::alloc::{AllocError, Global};
+use crate::cases::{Case, Wanted, Word, wrong_line};
 use std::test::Fail;
-
-// A line has at most so many bytes.
-const LONGEST_LINE: usize = 1_048_576;
 
 // A name of 64 bytes, which is the longest.
 const LONGEST: &str = "abcdefghijklmnopqrstuvwxyzABCDEFGHIJKLMNOPQRSTUVWXYZ_.0123456789";
-
-// What a line is to be read as.
-#[derive(Clone, Copy)]
-enum Wanted<'a> {
-    /// Its name, and max, page, ahead and dup.
-    Address(&'a str, u64, u64, u64, u32),
-    /// Its name, and that of the address.
-    Queue(&'a str, &'a str),
-    /// The address and the body, with nothing else.
-    Message(&'a str, &'a [u8]),
-    /// The name of the queue.
-    Count(&'a str),
-    Nothing,
-}
-
-type Case = (&'static [u8], Wanted<'static>);
 
 const ADDRESSES: [Case; 21] = [
     (
@@ -36,13 +15,7 @@ const ADDRESSES: [Case; 21] = [
     ),
     (
         b"address abcdefghijklmnopqrstuvwxyzABCDEFGHIJKLMNOPQRSTUVWXYZ_.0123456789 max 1000000000000 page 1000000000 ahead 7 dup 10",
-        Wanted::Address(
-            "abcdefghijklmnopqrstuvwxyzABCDEFGHIJKLMNOPQRSTUVWXYZ_.0123456789",
-            1_000_000_000_000,
-            1_000_000_000,
-            7,
-            10,
-        ),
+        Wanted::Address(LONGEST, 1_000_000_000_000, 1_000_000_000, 7, 10),
     ),
     (
         b"address abcdefghijklmnopqrstuvwxyzABCDEFGHIJKLMNOPQRSTUVWXYZ_.01234567890 max 50 page 100 ahead 0 dup 0",
@@ -63,6 +36,10 @@ const ADDRESSES: [Case; 21] = [
     ),
     (b"address A max 50 page 0 ahead 0 dup 0", Wanted::Nothing),
     (
+        b"address A max 50 page 1000000001 ahead 0 dup 0",
+        Wanted::Nothing,
+    ),
+    (
         b"address A max 50 page 100 ahead 1000000001 dup 0",
         Wanted::Nothing,
     ),
@@ -73,7 +50,7 @@ const ADDRESSES: [Case; 21] = [
     (b"address A max 050 page 100 ahead 0 dup 0", Wanted::Nothing),
     (b"address A max +5 page 100 ahead 0 dup 0", Wanted::Nothing),
     (
-        b"address A max 1111111111222222222233333 page 100 ahead 0 dup 0",
+        b"address A max 18446744073709551616 page 100 ahead 0 dup 0",
         Wanted::Nothing,
     ),
     (b"address A max  page 100 ahead 0 dup 0", Wanted::Nothing),
@@ -82,19 +59,18 @@ const ADDRESSES: [Case; 21] = [
     (b"address A max 50 page 100 dup 0 ahead 0", Wanted::Nothing),
     (b"address A", Wanted::Nothing),
     (b"Address A max 50 page 100 ahead 0 dup 0", Wanted::Nothing),
-    (b"", Wanted::Nothing),
 ];
 
-const QUEUES: [Case; 12] = [
-    (b"queue Q on A", Wanted::Queue("Q", "A")),
-    (b"queue on on on", Wanted::Queue("on", "on")),
+const QUEUES: [Case; 20] = [
+    (b"queue Q on A", Wanted::Queue("Q", "A", None)),
+    (b"queue on on on", Wanted::Queue("on", "on", None)),
     (
         b"queue Q on abcdefghijklmnopqrstuvwxyzABCDEFGHIJKLMNOPQRSTUVWXYZ_.0123456789",
-        Wanted::Queue("Q", LONGEST),
+        Wanted::Queue("Q", LONGEST, None),
     ),
     (
         b"queue abcdefghijklmnopqrstuvwxyzABCDEFGHIJKLMNOPQRSTUVWXYZ_.0123456789 on A",
-        Wanted::Queue(LONGEST, "A"),
+        Wanted::Queue(LONGEST, "A", None),
     ),
     (
         b"queue Q on abcdefghijklmnopqrstuvwxyzABCDEFGHIJKLMNOPQRSTUVWXYZ_.01234567890",
@@ -104,165 +80,117 @@ const QUEUES: [Case; 12] = [
         b"queue abcdefghijklmnopqrstuvwxyzABCDEFGHIJKLMNOPQRSTUVWXYZ_.01234567890 on A",
         Wanted::Nothing,
     ),
-    (b"queue Q on A where x", Wanted::Nothing),
     (b"queue Q on A ", Wanted::Nothing),
     (b"queue Q on ", Wanted::Nothing),
     (b"queue Q on \xff", Wanted::Nothing),
     (b"queue Q  on A", Wanted::Nothing),
     (b"queue  on A", Wanted::Nothing),
+    // A filter is a text, whether it can be read as a filter or not.
+    (
+        b"queue Q on A where a BETWEEN 1 OR 3",
+        Wanted::Queue("Q", "A", Some("a BETWEEN 1 OR 3")),
+    ),
+    (
+        b"queue where on where where where",
+        Wanted::Queue("where", "where", Some("where")),
+    ),
+    (b"queue Q on A where ", Wanted::Queue("Q", "A", Some(""))),
+    (
+        b"queue Q on A where  x ",
+        Wanted::Queue("Q", "A", Some(" x ")),
+    ),
+    (
+        b"queue Q on A where \xc3\xa9",
+        Wanted::Queue("Q", "A", Some("\u{e9}")),
+    ),
+    (b"queue Q on A where \xc3", Wanted::Nothing),
+    (b"queue Q on A where", Wanted::Nothing),
+    (b"queue Q on A  where x", Wanted::Nothing),
+    (b"queue Q on A WHERE x", Wanted::Nothing),
 ];
 
-const SENDS: [Case; 9] = [
-    (b"send A body aaaaa", Wanted::Message("A", b"aaaaa")),
-    (b"send A body ", Wanted::Message("A", b"")),
+const CONSUMERS: [Case; 33] = [
+    (b"consumer C on Q", Wanted::Consumer("C", "Q")),
+    (b"consumer on on on", Wanted::Consumer("on", "on")),
+    (b"consumer C on Q ", Wanted::Nothing),
+    (b"consumer C Q", Wanted::Nothing),
+    (b"consumer C on", Wanted::Nothing),
+    (b"ack C 1-1", Wanted::Ack((1, 1), None)),
+    (b"ack C 12-30 tx T", Wanted::Ack((12, 30), Some("T"))),
     (
-        b"send A body   two words ",
-        Wanted::Message("A", b"  two words "),
+        b"ack C 4294967295-4294967295",
+        Wanted::Ack((4_294_967_295, 4_294_967_295), None),
     ),
+    (b"ack C 0-1", Wanted::Nothing),
+    (b"ack C 1-0", Wanted::Nothing),
+    (b"ack C 4294967296-1", Wanted::Nothing),
+    (b"ack C 1-4294967296", Wanted::Nothing),
+    (b"ack C 01-1", Wanted::Nothing),
+    (b"ack C 1-01", Wanted::Nothing),
+    (b"ack C 1", Wanted::Nothing),
+    (b"ack C 1-", Wanted::Nothing),
+    (b"ack C -1", Wanted::Nothing),
+    (b"ack C 1--1", Wanted::Nothing),
+    (b"ack C 1-1-1", Wanted::Nothing),
+    (b"ack C +1-1", Wanted::Nothing),
+    (b"ack C 1-1 ", Wanted::Nothing),
+    (b"ack C  1-1", Wanted::Nothing),
+    (b"ack C 1-1 tx", Wanted::Nothing),
+    (b"ack C 1-1 tx T ", Wanted::Nothing),
+    (b"ack C 1-1 id 00", Wanted::Nothing),
+    (b"cancel C 7-1", Wanted::Cancel((7, 1))),
+    (b"cancel C 7-1 tx T", Wanted::Nothing),
+    (b"cancel C", Wanted::Nothing),
+    (b"part-of C 1-1 3 1", Wanted::PartOf(3, 1)),
     (
-        b"send A body \x00\xff\xc3\x28\x0d",
-        Wanted::Message("A", b"\x00\xff\xc3\x28\x0d"),
+        b"part-of C 1-1 4611686018427387904 65536",
+        Wanted::PartOf(4_611_686_018_427_387_904, 65_536),
     ),
-    (b"send A body body ", Wanted::Message("A", b"body ")),
-    (b"send A body", Wanted::Nothing),
-    (b"send A  body a", Wanted::Nothing),
-    (b"send 1 body a", Wanted::Nothing),
-    (b"send A Body a", Wanted::Nothing),
+    (b"part-of C 1-1 4611686018427387905 65536", Wanted::Nothing),
+    (b"part-of C 1-1 0 65537", Wanted::Nothing),
+    (b"part-of C 1-1 0 0 ", Wanted::Nothing),
 ];
 
-const COUNTS: [Case; 6] = [
-    (b"count Q", Wanted::Count("Q")),
-    (
-        b"count abcdefghijklmnopqrstuvwxyzABCDEFGHIJKLMNOPQRSTUVWXYZ_.0123456789",
-        Wanted::Count(LONGEST),
-    ),
-    (
-        b"count abcdefghijklmnopqrstuvwxyzABCDEFGHIJKLMNOPQRSTUVWXYZ_.01234567890",
-        Wanted::Nothing,
-    ),
-    (b"count Q ", Wanted::Nothing),
-    (b"count ", Wanted::Nothing),
-    (b"count", Wanted::Nothing),
+const NAMES: [Case; 25] = [
+    (b"drop N", Wanted::One(Word::Drop)),
+    (b"begin N", Wanted::One(Word::Begin)),
+    (b"commit N", Wanted::One(Word::Commit)),
+    (b"rollback N", Wanted::One(Word::Rollback)),
+    (b"receive N", Wanted::One(Word::Receive)),
+    (b"close N", Wanted::One(Word::Close)),
+    (b"end N", Wanted::One(Word::End)),
+    (b"cleanup N", Wanted::One(Word::Cleanup)),
+    (b"ahead N", Wanted::One(Word::Ahead)),
+    (b"stat N", Wanted::One(Word::Stat)),
+    (b"count N", Wanted::One(Word::Count)),
+    (b"checkpoint", Wanted::Checkpoint),
+    (b"checkpoint ", Wanted::Nothing),
+    (b"checkpoint N", Wanted::Nothing),
+    (b"checkpoin", Wanted::Nothing),
+    (b"receive", Wanted::Nothing),
+    (b"receive ", Wanted::Nothing),
+    (b"receive N ", Wanted::Nothing),
+    (b"receive N M", Wanted::Nothing),
+    (b"receiveN", Wanted::Nothing),
+    (b" count N", Wanted::Nothing),
+    (b"COUNT N", Wanted::Nothing),
+    (b"count \xc3\xa9", Wanted::Nothing),
+    (b" ", Wanted::Nothing),
+    (b"", Wanted::Nothing),
 ];
-
-fn is_address(command: &Command, wanted: (&str, u64, u64, u64, u32)) -> bool {
-    match command {
-        Command::Address {
-            name,
-            max,
-            page,
-            ahead,
-            dup,
-        } => wanted == (name.as_str(), *max, *page, *ahead, *dup),
-        _ => false,
-    }
-}
-
-fn is_queue(command: &Command, wanted: (&str, &str)) -> bool {
-    match command {
-        Command::Queue {
-            name,
-            address,
-            filter: None,
-        } => wanted == (name.as_str(), address.as_str()),
-        _ => false,
-    }
-}
-
-fn is_message(command: &Command, wanted: (&str, &[u8])) -> bool {
-    match command {
-        Command::Send {
-            address,
-            tx: None,
-            id: None,
-            properties,
-            body,
-        } => properties.as_slice().is_empty() && wanted == (address.as_str(), body.as_slice()),
-        _ => false,
-    }
-}
-
-fn is_count(command: &Command, wanted: &str) -> bool {
-    match command {
-        Command::Count { queue } => wanted == queue.as_str(),
-        _ => false,
-    }
-}
-
-fn is_wanted(command: &Command, wanted: Wanted<'_>) -> bool {
-    match wanted {
-        Wanted::Address(name, max, page, ahead, dup) => {
-            is_address(command, (name, max, page, ahead, dup))
-        }
-        Wanted::Queue(name, address) => is_queue(command, (name, address)),
-        Wanted::Message(address, body) => is_message(command, (address, body)),
-        Wanted::Count(queue) => is_count(command, queue),
-        Wanted::Nothing => false,
-    }
-}
-
-// Whether the line is read as what is wanted, or is unreadable where nothing is.
-fn is_read(alloc: Global, line: &[u8], wanted: Wanted<'_>) -> Result<bool, AllocError> {
-    match parse_line(alloc, line)? {
-        Some(command) => Ok(is_wanted(&command, wanted)),
-        None => Ok(matches!(wanted, Wanted::Nothing)),
-    }
-}
-
-// The first line of the table that is read otherwise.
-fn wrong_line(alloc: Global, cases: &[Case]) -> Result<Option<&'static [u8]>, AllocError> {
-    for (line, wanted) in cases {
-        if !is_read(alloc, line, *wanted)? {
-            return Ok(Some(line));
-        }
-    }
-    Ok(None)
-}
-
-// One byte more than the longest line.
-fn refuses_a_long_line(alloc: Global) -> Result<bool, AllocError> {
-    let long = vec![in alloc; b'a'; LONGEST_LINE + 1]?;
-    is_read(alloc, &long, Wanted::Nothing)
-}
 
 #[test]
-fn reads_addresses(rt: HostRuntime) -> Result<(), Fail> {
-    assert!(rt; wrong_line(rt.alloc(), &ADDRESSES)?.is_none() && refuses_a_long_line(rt.alloc())?);
+fn reads_what_is_made(rt: HostRuntime) -> Result<(), Fail> {
+    assert!(rt;
+        wrong_line(rt.alloc(), &ADDRESSES)?.is_none() && wrong_line(rt.alloc(), &QUEUES)?.is_none()
+    );
     Ok(())
 }
 
 #[test]
-fn reads_queues(rt: HostRuntime) -> Result<(), Fail> {
-    assert!(rt; wrong_line(rt.alloc(), &QUEUES)?.is_none());
-    Ok(())
-}
-
-// A message with a body of so many bytes.
-fn with_body(alloc: Global, length: usize) -> Result<Vec<u8>, AllocError> {
-    let mut line = Vec::from_slice(alloc, b"send A body ")?;
-    line.append(&mut vec![in alloc; 0xff; length]?)?;
-    Ok(line)
-}
-
-// Whether a message with a body of 1,000 bytes is read, and none with a body of 1,001.
-fn keeps_the_limit(alloc: Global) -> Result<bool, AllocError> {
-    let most = with_body(alloc, 1000)?;
-    let more = with_body(alloc, 1001)?;
-    let body = most.get(12..).unwrap_or(&[]);
-    Ok(
-        is_read(alloc, &most, Wanted::Message("A", body))?
-            && is_read(alloc, &more, Wanted::Nothing)?,
-    )
-}
-
-#[test]
-fn reads_messages(rt: HostRuntime) -> Result<(), Fail> {
-    assert!(rt; wrong_line(rt.alloc(), &SENDS)?.is_none() && keeps_the_limit(rt.alloc())?);
-    Ok(())
-}
-
-#[test]
-fn reads_counts(rt: HostRuntime) -> Result<(), Fail> {
-    assert!(rt; wrong_line(rt.alloc(), &COUNTS)?.is_none());
+fn reads_what_consumers_do(rt: HostRuntime) -> Result<(), Fail> {
+    assert!(rt;
+        wrong_line(rt.alloc(), &CONSUMERS)?.is_none() && wrong_line(rt.alloc(), &NAMES)?.is_none()
+    );
     Ok(())
 }

@@ -2,8 +2,12 @@
 #![tactic(auto)]
 
 #[cfg(test)]
+mod cases;
+#[cfg(test)]
 mod commands;
 #[cfg(test)]
 mod lines;
+#[cfg(test)]
+mod messages;
 #[cfg(test)]
 mod replies;

@@ -3,4 +3,3 @@ pub mod Lists
 pub mod Messages
 pub mod Names
 pub mod Reading
-pub mod Replies

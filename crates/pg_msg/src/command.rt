@@ -4,7 +4,7 @@ use crate::message::MessageId;
 use crate::properties::Properties;
 use pg_bytes::{Octets, Text};
 
-/// A command of a script. `docs/FORMATS.md` gives the lines of those that are built.
+/// A command of a script. `docs/FORMATS.md` gives its lines, and says which are served.
 #[derive(PartialEq, Eq, Drop)]
 pub enum Command {
     /// Makes an address. `max` and `ahead` are bytes of messages, `page` is bytes of a page file, and `dup` is a count

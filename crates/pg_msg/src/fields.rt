@@ -13,9 +13,10 @@ mod values;
 
 pub use lists::{put_pages, put_queue_ids, read_pages, read_queue_ids};
 pub use messages::{put_message, put_message_id, read_message, read_message_id};
-pub use names::{put_name, read_name, text_of};
+pub use names::{name_of, property_name_of, put_name, read_name, text_of};
 pub use numbers::{read_bytes, read_u8, read_u16, read_u32, read_u64};
 use std::alloc::AllocError;
+pub use values::names_differ;
 
 /// Why a field wasn't read.
 #[derive(Clone, Copy, PartialEq, Eq)]

@@ -22,8 +22,11 @@ pub const LONGEST_NAME: usize = 64;
 /// A duplicate id has at most so many bytes.
 pub const LONGEST_DUPLICATE_ID: usize = 64;
 
-/// The body that a line gives a message has at most so many bytes.
-pub const LONGEST_BODY: usize = 1_000;
+/// The text of a filter has at most so many bytes.
+pub const LONGEST_FILTER: usize = 4_096;
+
+/// A piece of a large message's body that a command asks for has at most so many bytes.
+pub const LONGEST_PIECE: u64 = 65_536;
 
 /// The greatest `max` of an address, in bytes of messages.
 pub const GREATEST_MAX: u64 = 1_000_000_000_000;

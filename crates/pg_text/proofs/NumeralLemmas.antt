@@ -1,5 +1,5 @@
--- The digits that numbers are written with.
-use Rattle.std.proofs.Common.{◌≡◌, ◌≢◌, ℕ, ◌<◌, ◌^◌, zero, suc, List, [], ◌∷◌, length, get_or, Some, None, Result, Ok, Err, MatchOption, MatchResult, Bor, refl, ap, sym, ◌∙◌, arith}
+-- Words without a mark, and the digits that numbers are written with.
+use Rattle.std.proofs.Common.{◌≡◌, ◌≢◌, ℕ, ◌<◌, ◌≤◌, ◌^◌, ◌⊎◌, inl, inr, zero, suc, List, [], ◌∷◌, length, get_or, Some, None, Result, Ok, Err, MatchOption, MatchResult, Bor, refl, ap, sym, ◌∙◌, arith}
 use Rattle.std.specs.Result.{result_ok}
 use Rattle.std.specs.Fmt.{decimal}
 use Rattle.std.specs.Int.{IsInRange}
@@ -8,18 +8,35 @@ use Rattle.std.specs.Str.Parse.{AllDigits, ParsesUnsigned}
 use Rattle.std.proofs.lemmas.Fmt.{decimal_is_IsNumeral, decimal_digit, first_decimal, decimal-digits_value, parse-decimal, IsAscii-decimal}
 use Rattle.std.proofs.lemmas.Str.{IsUtf8-from_ascii}
 use Rattle.std.proofs.lemmas.Str.Parse.{digit_at, digit_from_value, numerals_by_value, tells_digits, parse_plain}
-use Rattle.pg_text.specs.Words.{IsWord, BeginsAsNumber}
+use Rattle.pg_text.specs.Reading.{BeginsAsNumber}
 
--- digits are no spaces
-IsWord-digits : (digits : List ℕ) → AllDigits 10 digits → IsWord digits
-IsWord-digits [] _ = tt
-IsWord-digits (digit ∷ digits) all =
+-- no such byte
+abbrev pub Lacks : ℕ → List ℕ → Type 0
+Lacks mark [] = Unit {0}
+Lacks mark (byte ∷ bytes) = (byte ≢ mark) × Lacks mark bytes
+
+-- there are none, or this byte is the first
+abbrev pub EndsAt : ℕ → List ℕ → Type 0
+EndsAt mark [] = Unit {0}
+EndsAt mark (byte ∷ bytes) = byte ≡ mark
+
+-- a byte that is no digit
+abbrev pub IsNoDigit : ℕ → Type 0
+IsNoDigit mark = (mark < 48) ⊎ (57 < mark)
+
+differs : (mark digit : ℕ) → IsNoDigit mark → 48 ≤ digit → digit ≤ 57 → digit ≢ mark
+differs mark digit (inl below) low high same = omega arith
+differs mark digit (inr above) low high same = omega arith
+
+Lacks-digits : (mark : ℕ) (digits : List ℕ) → IsNoDigit mark → AllDigits 10 digits → Lacks mark digits
+Lacks-digits mark [] _ _ = tt
+Lacks-digits mark (digit ∷ digits) no_digit all =
     let range = digit_from_value digit all.0 in
-    ((λ space. omega (arith, range.0)), IsWord-digits digits all.1)
+    (differs mark digit no_digit range.0 range.1, Lacks-digits mark digits no_digit all.1)
 
--- a number is a word
-pub IsWord-decimal : (number : ℕ) → number < 2 ^ 64 → IsWord (decimal number)
-IsWord-decimal number fits = IsWord-digits _ (decimal_is_IsNumeral number fits).0.1
+-- a number has none
+pub Lacks-decimal : (mark number : ℕ) → IsNoDigit mark → number < 2 ^ 64 → Lacks mark (decimal number)
+Lacks-decimal mark number no_digit fits = Lacks-digits mark _ no_digit (decimal_is_IsNumeral number fits).0.1
 
 -- a number begins with a digit, and with `0` only where that is all
 decimal_first : (number : ℕ) → number < 2 ^ 64 → IsInRange 48 57 (get_or (decimal number) 0 0) × (get_or (decimal number) 0 0 ≡ 48 → length (decimal number) ≡ 1)

@@ -1,3 +1,5 @@
+pub mod Arguments
+pub mod Reading
 pub mod Replies
 pub mod Spelling
-pub mod Words
+pub mod Texts

@@ -1,49 +1,78 @@
 -- The bytes of replies.
-use Rattle.std.specs.Prelude.{◌≡◌, ◌≢◌, ℕ, List, [], ◌∷◌, ◌++◌, codes}
+use Rattle.std.specs.Prelude.{◌≡◌, ◌≢◌, ℕ, Bool, List, [], ◌∷◌, ◌++◌, Option, Some, None, codes, if◌then◌else◌}
 use Rattle.std.specs.Fmt.{decimal}
-use Rattle.pg_msg.specs.declared.message.MessageId.{MessageId}
+use Rattle.hex.specs.Hex.{encode_lower}
+use Rattle.pg_msg.specs.declared.message.Body.{Body}
+use Rattle.pg_msg.specs.declared.message.Body.TheVariants.{Plain, Large}
+use Rattle.pg_msg.specs.declared.message.Message.{Message}
 use Rattle.pg_msg.specs.declared.reply.Reply.{Reply}
 use Rattle.pg_msg.specs.declared.reply.Reply.TheVariants as replies
 use Rattle.pg_msg.specs.declared.reply.Refusal.{Refusal}
 use Rattle.pg_msg.specs.declared.reply.Refusal.TheVariants as refusals
+use Rattle.pg_text.specs.Texts.{id_text, properties_text}
 
--- the word of a refusal that is built; the others have none yet
-abbrev pub refusal_word : Refusal → List ℕ
-refusal_word refusals.Line = codes "line"
-refusal_word refusals.Name = codes "name"
-refusal_word refusals.Address = codes "address"
-refusal_word refusals.Queue = codes "queue"
-refusal_word refusals.Room = []
-refusal_word (refusals.Filter at) = []
-refusal_word refusals.ConsumerOpen = []
-refusal_word refusals.Tx = []
-refusal_word refusals.TxFailed = []
-refusal_word refusals.Size = []
-refusal_word refusals.Duplicate = []
-refusal_word refusals.Ids = []
-refusal_word refusals.Consumer = []
-refusal_word refusals.Delivery = []
-refusal_word refusals.Large = []
-refusal_word refusals.Range = []
+-- the word of a refusal, and of a filter without a reading also the place where that fails
+abbrev pub refusal_text : Refusal → List ℕ
+refusal_text refusals.Line = codes "line"
+refusal_text refusals.Name = codes "name"
+refusal_text refusals.Room = codes "room"
+refusal_text refusals.Address = codes "address"
+refusal_text refusals.Queue = codes "queue"
+refusal_text (refusals.Filter at) = codes "filter " ++ decimal at
+refusal_text refusals.ConsumerOpen = codes "consumer-open"
+refusal_text refusals.Tx = codes "tx"
+refusal_text refusals.TxFailed = codes "failed"
+refusal_text refusals.Size = codes "size"
+refusal_text refusals.Duplicate = codes "duplicate"
+refusal_text refusals.Ids = codes "ids"
+refusal_text refusals.Consumer = codes "consumer"
+refusal_text refusals.Delivery = codes "delivery"
+refusal_text refusals.Large = codes "large"
+refusal_text refusals.Range = codes "range"
 
--- `E-N`
-abbrev pub id_text : MessageId → List ℕ
-id_text id = decimal id.epoch ++ (45 ∷ decimal id.number)
+-- two digits for each byte, with lower-case letters, and `-` for no bytes
+abbrev pub hex_text : List ℕ → List ℕ
+hex_text [] = codes "-"
+hex_text (byte ∷ bytes) = encode_lower (byte ∷ bytes)
 
--- the text of a reply that is built; the others have none yet
+-- ` id DIGITS`, or nothing
+abbrev pub dup_text : Option (List ℕ) → List ℕ
+dup_text None = []
+dup_text (Some id) = codes " id " ++ hex_text id
+
+-- ` hex DIGITS` of a plain body, and ` large LENGTH` of a large one
+abbrev pub body_text : Body → List ℕ
+body_text (Plain bytes) = codes " hex " ++ hex_text bytes
+body_text (Large size) = codes " large " ++ decimal size
+
+-- the id, the duplicate id, the properties and the body
+abbrev pub message_text : Message → List ℕ
+message_text message =
+    codes "msg " ++ (id_text message.id ++
+    (dup_text message.dup ++ (properties_text message.properties ++ body_text message.body)))
+
+abbrev pub mode_text : Bool → List ℕ
+mode_text paging = if paging then codes "paging" else codes "normal"
+
+-- `stat MODE resident N loaded N pages N first N`
+abbrev pub stat_text : Bool → ℕ → ℕ → ℕ → ℕ → List ℕ
+stat_text paging resident loaded pages first =
+    codes "stat " ++ (mode_text paging ++ (codes " resident " ++ (decimal resident ++
+    (codes " loaded " ++ (decimal loaded ++ (codes " pages " ++ (decimal pages ++ (codes " first " ++ decimal first))))))))
+
 abbrev pub reply_text : Reply → List ℕ
 reply_text replies.Done = codes "ok"
-reply_text (replies.No refusal) = codes "no " ++ refusal_word refusal
 reply_text (replies.Sent id) = codes "sent " ++ id_text id
 reply_text replies.Unrouted = codes "unrouted"
+reply_text (replies.Given message) = message_text message
+reply_text replies.Empty = codes "empty"
+reply_text (replies.Bytes octets) = codes "bytes " ++ hex_text octets
+reply_text (replies.Removed page) = codes "removed " ++ decimal page
+reply_text (replies.First page) = codes "first " ++ decimal page
+reply_text replies.Nothing = codes "nothing"
+reply_text (replies.Stat paging resident loaded pages first) = stat_text paging resident loaded pages first
 reply_text (replies.Count count) = codes "count " ++ decimal count
-reply_text (replies.Given message) = []
-reply_text replies.Empty = []
-reply_text (replies.Bytes octets) = []
-reply_text (replies.Removed page) = []
-reply_text (replies.First page) = []
-reply_text replies.Nothing = []
-reply_text (replies.Stat paging resident loaded pages first) = []
+reply_text (replies.No refusal) = codes "no " ++ refusal_text refusal
 
 -- with its line end
 abbrev pub reply_line : Reply → List ℕ

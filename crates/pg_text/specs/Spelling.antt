@@ -1,10 +1,12 @@
 -- How a line spells a command.
-use Rattle.std.specs.Prelude.{◌≡◌, ◌≤◌, ℕ, List, [], ◌∷◌, ◌++◌, length, Option, Some, None, codes}
+use Rattle.std.specs.Prelude.{◌≡◌, ◌≤◌, ◌⊎◌, ℕ, List, [], ◌∷◌, ◌++◌, length, Option, Some, None, codes}
 use Rattle.std.specs.Fmt.{decimal}
 use Rattle.pg_msg.specs.declared.command.Command.{Command}
 use Rattle.pg_msg.specs.declared.command.Command.TheVariants.{Address, Queue, DropQueue, Send, Begin, Commit, Rollback, Consumer, Receive, Ack, Cancel, Close, Large, Part, End, PartOf, Cleanup, Ahead, Checkpoint, Stat, Count}
+use Rattle.pg_msg.specs.declared.properties.Property.{Property}
 use Rattle.pg_msg.specs.Commands.{IsInRange}
 use Rattle.pg_lines.specs.Lines.{longest_line}
+use Rattle.pg_text.specs.Texts.{SpellsHex, filter_text, id_text, properties_text, tx_text}
 
 -- `address NAME max N page N ahead N dup N`
 abbrev pub address_line : List ℕ → ℕ → ℕ → ℕ → ℕ → List ℕ
@@ -13,45 +15,72 @@ address_line name max page ahead dup =
     (codes " max " ++ (decimal max ++
     (codes " page " ++ (decimal page ++ (codes " ahead " ++ (decimal ahead ++ (codes " dup " ++ decimal dup))))))))
 
--- `queue NAME on NAME`
-abbrev pub queue_line : List ℕ → List ℕ → List ℕ
-queue_line name address = codes "queue " ++ (name ++ (codes " on " ++ address))
+-- ` id DIGITS` spells a duplicate id, and nothing none
+abbrev pub SpellsId : List ℕ → Option (List ℕ) → Type 0
+SpellsId part None = part ≡ []
+SpellsId part (Some id) = (digits : List ℕ) × SpellsHex digits id × (part ≡ codes " id " ++ digits)
 
--- `send NAME body TEXT`, where the text is all that is left of the line
-abbrev pub send_line : List ℕ → List ℕ → List ℕ
-send_line address body = codes "send " ++ (address ++ (codes " body " ++ body))
+-- ` hex DIGITS` spells a body
+pub record SpellsInHex (part body : List ℕ) : Type 0 where
+  pub digits : List ℕ
+  pub spelled : SpellsHex digits body
+  pub bytes : part ≡ codes " hex " ++ digits
 
--- `count NAME`
-abbrev pub count_line : List ℕ → List ℕ
-count_line queue = codes "count " ++ queue
+-- ` body BYTES` spells the bytes themselves, all that are left of the line, and ` hex DIGITS` what the digits spell
+abbrev pub SpellsBody : List ℕ → List ℕ → Type 0
+SpellsBody part body = (part ≡ codes " body " ++ body) ⊎ SpellsInHex part body
 
--- the line of a command that is built; the others have none yet
-abbrev pub line_of : Command → List ℕ
-line_of (Address name max page ahead dup) = address_line name max page ahead dup
-line_of (Queue name address filter) = queue_line name address
-line_of (Send address tx id properties body) = send_line address body
-line_of (Count queue) = count_line queue
-line_of (DropQueue name) = []
-line_of (Begin tx) = []
-line_of (Commit tx) = []
-line_of (Rollback tx) = []
-line_of (Consumer name queue) = []
-line_of (Receive consumer) = []
-line_of (Ack consumer message tx) = []
-line_of (Cancel consumer message) = []
-line_of (Close consumer) = []
-line_of (Large address name id properties) = []
-line_of (Part name bytes) = []
-line_of (End name) = []
-line_of (PartOf consumer message start length) = []
-line_of (Cleanup address) = []
-line_of (Ahead queue) = []
-line_of Checkpoint = []
-line_of (Stat address) = []
+-- `send NAME`, then ` tx NAME`, ` id DIGITS` and ` prop NAME VALUE` as far as they are wanted, and the body
+pub record SpellsSend (line address : List ℕ) (tx id : Option (List ℕ)) (properties : List Property) (body : List ℕ)
+    : Type 0 where
+  pub id_part : List ℕ
+  pub is_id : SpellsId id_part id
+  pub body_part : List ℕ
+  pub is_body : SpellsBody body_part body
+  pub bytes : line ≡ codes "send " ++ (address ++ (tx_text tx ++ (id_part ++ (properties_text properties ++ body_part))))
 
--- the line spells the command, which is one of those that are built
+-- `large NAME NAME`, and then ` id DIGITS` and ` prop NAME VALUE` as far as they are wanted
+pub record SpellsLarge (line address name : List ℕ) (id : Option (List ℕ)) (properties : List Property) : Type 0 where
+  pub id_part : List ℕ
+  pub is_id : SpellsId id_part id
+  pub bytes : line ≡ codes "large " ++ (address ++ (32 ∷ (name ++ (id_part ++ properties_text properties))))
+
+-- `part NAME DIGITS`
+pub record SpellsPart (line name bytes : List ℕ) : Type 0 where
+  pub digits : List ℕ
+  pub spelled : SpellsHex digits bytes
+  pub whole : line ≡ codes "part " ++ (name ++ (32 ∷ digits))
+
+-- the line has the words of the command, with one space between each two
+abbrev pub HasWords : List ℕ → Command → Type 0
+HasWords line (Address name max page ahead dup) = line ≡ address_line name max page ahead dup
+HasWords line (Queue name address filter) =
+    line ≡ codes "queue " ++ (name ++ (codes " on " ++ (address ++ filter_text filter)))
+HasWords line (DropQueue name) = line ≡ codes "drop " ++ name
+HasWords line (Send address tx id properties body) = SpellsSend line address tx id properties body
+HasWords line (Begin tx) = line ≡ codes "begin " ++ tx
+HasWords line (Commit tx) = line ≡ codes "commit " ++ tx
+HasWords line (Rollback tx) = line ≡ codes "rollback " ++ tx
+HasWords line (Consumer name queue) = line ≡ codes "consumer " ++ (name ++ (codes " on " ++ queue))
+HasWords line (Receive consumer) = line ≡ codes "receive " ++ consumer
+HasWords line (Ack consumer message tx) =
+    line ≡ codes "ack " ++ (consumer ++ (32 ∷ (id_text message ++ tx_text tx)))
+HasWords line (Cancel consumer message) = line ≡ codes "cancel " ++ (consumer ++ (32 ∷ id_text message))
+HasWords line (Close consumer) = line ≡ codes "close " ++ consumer
+HasWords line (Large address name id properties) = SpellsLarge line address name id properties
+HasWords line (Part name bytes) = SpellsPart line name bytes
+HasWords line (End name) = line ≡ codes "end " ++ name
+HasWords line (PartOf consumer message start size) =
+    line ≡ codes "part-of " ++ (consumer ++ (32 ∷ (id_text message ++ (32 ∷ (decimal start ++ (32 ∷ decimal size))))))
+HasWords line (Cleanup address) = line ≡ codes "cleanup " ++ address
+HasWords line (Ahead queue) = line ≡ codes "ahead " ++ queue
+HasWords line Checkpoint = line ≡ codes "checkpoint"
+HasWords line (Stat address) = line ≡ codes "stat " ++ address
+HasWords line (Count queue) = line ≡ codes "count " ++ queue
+
+-- the line spells the command, and what the command holds is in its range
 pub record Spells (line : List ℕ) (command : Command) : Type 0 where
-  pub bytes : line ≡ line_of command
+  pub words : HasWords line command
   pub in_range : IsInRange command
 
 -- A line is read as the command that it spells. A line that spells none, and one that is too long, is unreadable.

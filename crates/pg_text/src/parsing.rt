@@ -1,27 +1,20 @@
 // Lines as commands.
-ghost use Rattle.std.specs.Prelude.{◌≡◌, ◌≢◌, ℕ, IfOk, MatchOption, codes};
-ghost use Rattle.pg_msg.specs.Commands.{AreSettings};
-ghost use Rattle.pg_text.specs.Spelling.{ReadsAs};
-ghost use Rattle.pg_text.specs.Words.{ReadsBehind, settings_text};
+ghost use Rattle.std.specs.Prelude.{◌≡◌, ℕ, List, IfOk};
+ghost use Rattle.pg_msg.specs.declared.command.Command.{Command};
+ghost use Rattle.pg_msg.specs.Reading.{Gives};
+ghost use Rattle.pg_text.specs.Spelling.{ReadsAs, Spells};
+ghost use Rattle.pg_text.specs.Arguments.{arguments_at, command_at};
+ghost use Rattle.pg_text.specs.Reading.{last_of};
 
-use crate::words;
-use pg_bytes::{Octets, Text};
-use pg_msg::{
-    Command, GREATEST_AHEAD, GREATEST_DUP, GREATEST_MAX, GREATEST_PAGE, LONGEST_BODY, Properties,
-};
+use crate::arguments;
+use crate::verbs::{Verb, verb_of};
+use crate::words::{is_end, split_at_first};
+use pg_msg::Command;
+use pg_msg::fields::Unread;
 use std::alloc::{AllocError, Global};
 
 // A line has at most so many bytes.
 const LONGEST_LINE: usize = 1_048_576;
-
-// The settings of an address, as a line gives them.
-#[derive(Clone, Copy)]
-struct AddressSettings {
-    max: u64,
-    page: u64,
-    ahead: u64,
-    dup: u32,
-}
 
 /// The command that a line spells, and None where it spells none or is too long. The line comes without its line end;
 /// `docs/FORMATS.md` gives the spellings. Fails only where there is no memory.
@@ -31,113 +24,52 @@ pub fn parse_line(alloc: Global, line: &[u8]) -> Result<Option<Command>, AllocEr
     if line.len() > LONGEST_LINE {
         return Ok(None);
     }
-    if let Some(arguments) = words::keyword(line, b"address ") {
-        return address(alloc, arguments);
+    match command(alloc, line) {
+        Ok(command) => Ok(Some(command)),
+        Err(Unread::Malformed) => Ok(None),
+        Err(Unread::Memory) => Err(AllocError),
     }
-    if let Some(arguments) = words::keyword(line, b"queue ") {
-        return queue(alloc, arguments);
-    }
-    if let Some(arguments) = words::keyword(line, b"send ") {
-        return send(alloc, arguments);
-    }
-    if let Some(arguments) = words::keyword(line, b"count ") {
-        return count(alloc, arguments);
-    }
-    Ok(None)
 }
 
-// The command `address` with its arguments.
-fn address(alloc: Global, arguments: &[u8]) -> Result<Option<Command>, AllocError>
-    ensures { IfOk result (λ item. ReadsBehind (codes "address ") arguments.now item) }
+/// A line spells one command at most, though a command may have several lines. A law, which does nothing.
+pub fn one_command()
+    ensures { (line : List ℕ) (what other : Command) → Spells line what → Spells line other → what ≡ other }
+{}
+
+#[tactic(auto, unfolding(crate::specs::Arguments::command_at))]
+fn command(alloc: Global, line: &[u8]) -> Result<Command, Unread>
+    ensures { Gives (λ command. command) result (command_at line.now) }
 {
-    let Some((name, rest)) = words::name(arguments) else {
-        return Ok(None);
+    let (word, arguments) = split_at_first(line, b' ');
+    let Some(verb) = verb_of(word) else {
+        return Err(Unread::Malformed);
     };
-    let Some(settings) = address_settings(rest) else {
-        return Ok(None);
-    };
-    Ok(Some(Command::Address {
-        name: Text::from_str(alloc, name)?,
-        max: settings.max,
-        page: settings.page,
-        ahead: settings.ahead,
-        dup: settings.dup,
-    }))
+    with_arguments(alloc, verb, arguments)
 }
 
-// What stands behind the name of an address.
-fn address_settings(line: &[u8]) -> Option<AddressSettings>
-    ensures { MatchOption result
-        ((max page ahead dup : ℕ) → AreSettings max page ahead dup
-        → line.now ≢ settings_text max page ahead dup)
-        (λ s. AreSettings s.max s.page s.ahead s.dup
-        × (line.now ≡ settings_text s.max s.page s.ahead s.dup)) }
+fn with_arguments(alloc: Global, verb: Verb, line: &[u8]) -> Result<Command, Unread>
+    ensures { Gives (λ command. command) result (arguments_at verb line.now) }
 {
-    let (max, line) = words::setting(line, b" max ", 0, GREATEST_MAX)?;
-    let (page, line) = words::setting(line, b" page ", 1, GREATEST_PAGE)?;
-    let (ahead, line) = words::setting(line, b" ahead ", 0, GREATEST_AHEAD)?;
-    let (dup, line) = words::setting(line, b" dup ", 0, GREATEST_DUP as u64)?;
-    if !line.is_empty() {
-        return None;
+    match verb {
+        Verb::Address => arguments::address(alloc, line),
+        Verb::Queue => arguments::queue(alloc, line),
+        Verb::Send => arguments::send(alloc, line),
+        Verb::Consumer => arguments::consumer(alloc, line),
+        Verb::Ack => arguments::ack(alloc, line),
+        Verb::Cancel => arguments::cancel(alloc, line),
+        Verb::Large => arguments::large(alloc, line),
+        Verb::Part => arguments::part(alloc, line),
+        Verb::PartOf => arguments::part_of(alloc, line),
+        Verb::Checkpoint => checkpoint(line),
+        Verb::One(what) => arguments::single(alloc, what, line),
     }
-    Some(AddressSettings {
-        max,
-        page,
-        ahead,
-        dup: dup as u32,
-    })
 }
 
-// The command `queue` with its arguments.
-fn queue(alloc: Global, arguments: &[u8]) -> Result<Option<Command>, AllocError>
-    ensures { IfOk result (λ item. ReadsBehind (codes "queue ") arguments.now item) }
+fn checkpoint(line: &[u8]) -> Result<Command, Unread>
+    ensures { Gives (λ command. command) result (last_of (Command.Checkpoint, line.now)) }
 {
-    let Some((name, rest)) = words::name(arguments) else {
-        return Ok(None);
-    };
-    let Some(rest) = words::keyword(rest, b" on ") else {
-        return Ok(None);
-    };
-    let Some(address) = words::last_name(rest) else {
-        return Ok(None);
-    };
-    Ok(Some(Command::Queue {
-        name: Text::from_str(alloc, name)?,
-        address: Text::from_str(alloc, address)?,
-        filter: None,
-    }))
-}
-
-// The command `send` with its arguments. The body is all that is behind the word `body` and one space.
-fn send(alloc: Global, arguments: &[u8]) -> Result<Option<Command>, AllocError>
-    ensures { IfOk result (λ item. ReadsBehind (codes "send ") arguments.now item) }
-{
-    let Some((address, rest)) = words::name(arguments) else {
-        return Ok(None);
-    };
-    let Some(body) = words::keyword(rest, b" body ") else {
-        return Ok(None);
-    };
-    if body.len() > LONGEST_BODY {
-        return Ok(None);
+    if !is_end(line) {
+        return Err(Unread::Malformed);
     }
-    Ok(Some(Command::Send {
-        address: Text::from_str(alloc, address)?,
-        tx: None,
-        id: None,
-        properties: Properties::new(alloc),
-        body: Octets::from_slice(alloc, body)?,
-    }))
-}
-
-// The command `count` with its arguments.
-fn count(alloc: Global, arguments: &[u8]) -> Result<Option<Command>, AllocError>
-    ensures { IfOk result (λ item. ReadsBehind (codes "count ") arguments.now item) }
-{
-    let Some(queue) = words::last_name(arguments) else {
-        return Ok(None);
-    };
-    Ok(Some(Command::Count {
-        queue: Text::from_str(alloc, queue)?,
-    }))
+    Ok(Command::Checkpoint)
 }

@@ -1,83 +1,184 @@
-// The pieces that lines are made of. Each gives what it read and what is behind that, and None only
-// where the line begins with nothing of the kind.
-ghost use Rattle.std.specs.Prelude.{◌≡◌, ◌≢◌, ◌<◌, ◌^◌, ◌==◌, ◌↔◌, ◌++◌, ℕ, List, length, position, IfSome, IsTrue, MatchOption};
+// The words that lines are made of. Each is taken from the front, and given with what is behind it. Malformed where
+// the line begins with no such word.
+ghost use Rattle.std.specs.Prelude.{◌≡◌, ◌≢◌, ◌<◌, ◌^◌, ◌↔◌, ◌==◌, ℕ, length, not, position, IfOk, IfSome, IsTrue, MatchOption};
 ghost use Rattle.std.specs.Fmt.{decimal};
-ghost use Rattle.pg_msg.specs.Names.{IsName, IsNameStart, IsNameByte};
-ghost use Rattle.pg_text.specs.Words.{BeginsAsNumber, BeginsWithName, BeginsWithNumber, BeginsWithSetting, BeginsWithWord};
+ghost use Rattle.std.specs.Str.{bytes_eq};
+ghost use Rattle.std.specs.Option.{option_map};
+ghost use Rattle.pg_msg.specs.Names.{IsBetween};
+ghost use Rattle.pg_msg.specs.Reading.{Gives, guarded};
+ghost use Rattle.pg_text.specs.Reading.{BeginsAsNumber, before, onward, behind, is_empty, number_of, name_at, name_behind, last_name_behind, number_behind, id_part_of, message_id_at, hex_of, unread_of};
 
-use pg_msg::LONGEST_NAME;
+use hex::FromHexError;
+use pg_bytes::{Octets, Text};
+use pg_msg::MessageId;
+use pg_msg::fields::{Unread, name_of};
+use std::alloc::Global;
 
-// What is behind the keyword.
-pub fn keyword<'a>(line: &'a [u8], word: &[u8]) -> Option<&'a [u8]>
-    ensures { MatchOption result
-        ((rest : List ℕ) → line.now ≢ word.now ++ rest)
-        (λ rest. line.now ≡ word.now ++ rest.now) }
+// The bytes up to the first such byte or the end, and those from there on.
+pub fn split_at_first(line: &[u8], mark: u8) -> (&[u8], &[u8])
+    ensures front { result.0.now ≡ before mark line.now }
+    ensures back { result.1.now ≡ onward mark line.now }
 {
-    line.strip_prefix(word)
-}
-
-// The bytes up to the first space or the end of the line.
-fn first_word(line: &[u8]) -> (&[u8], &[u8])
-    ensures { BeginsWithWord line.now result.0.now result.1.now }
-{
-    let end = first_space(line).unwrap_or(line.len());
+    let end = place_of(line, mark).unwrap_or(line.len());
     line.split_at(end)
 }
 
-fn first_space(line: &[u8]) -> Option<usize>
-    ensures place { result ≡ position (λ byte. byte == 32) line.now }
+fn place_of(line: &[u8], mark: u8) -> Option<usize>
+    ensures place { result ≡ position (λ byte. byte == mark) line.now }
     ensures within { IfSome result (λ place. place < length line.now) }
 {
-    line.iter().position(|byte| *byte == b' ')
+    line.iter().position(|byte| *byte == mark)
 }
 
-// The name that is the first word.
-pub fn name(line: &[u8]) -> Option<(&str, &[u8])>
-    ensures { MatchOption result
-        ((name rest : List ℕ) → ¬ BeginsWithName line.now name rest)
-        (λ read. BeginsWithName line.now read.0.now read.1.now) }
+// What is behind the keyword, if it is there.
+pub fn after<'a>(line: &'a [u8], keyword: &[u8]) -> Option<&'a [u8]>
+    ensures { option_map (λ rest. rest.now) result ≡ behind keyword.now line.now }
 {
-    let (word, rest) = first_word(line);
-    if !is_name(word) {
-        return None;
+    line.strip_prefix(keyword)
+}
+
+// What is behind the keyword.
+pub fn expect<'a>(line: &'a [u8], keyword: &[u8]) -> Result<&'a [u8], Unread>
+    ensures { Gives (λ rest. rest.now) result (behind keyword.now line.now) }
+{
+    match after(line, keyword) {
+        Some(rest) => Ok(rest),
+        None => Err(Unread::Malformed),
     }
-    let name = str::from_utf8(word).ok()?;
-    Some((name, rest))
 }
 
-// The whole line, where it is a name.
-pub fn last_name(line: &[u8]) -> Option<&str>
-    ensures { MatchOption result
-        (¬ IsName line.now)
-        (λ name. (name.now ≡ line.now) × IsName line.now) }
+// Whether nothing is left.
+pub fn is_end(line: &[u8]) -> bool
+    ensures { result ≡ is_empty line.now }
 {
-    if !is_name(line) {
-        return None;
+    line.is_empty()
+}
+
+pub fn is(word: &[u8], name: &str) -> bool
+    ensures { result ≡ bytes_eq word.now name.now }
+{
+    word == name.as_bytes()
+}
+
+#[tactic(auto, unfolding(crate::specs::Reading::name_at))]
+pub fn name(alloc: Global, line: &[u8]) -> Result<(Text, &[u8]), Unread>
+    ensures { Gives (λ read. (read.0, read.1.now)) result (name_at line.now) }
+{
+    let (word, rest) = split_at_first(line, b' ');
+    let name = name_of(alloc, word)?;
+    Ok((name, rest))
+}
+
+// The keyword, and a name.
+#[tactic(auto, unfolding(crate::specs::Reading::name_behind))]
+pub fn name_behind<'a>(
+    alloc: Global,
+    line: &'a [u8],
+    keyword: &[u8],
+) -> Result<(Text, &'a [u8]), Unread>
+    ensures { Gives (λ read. (read.0, read.1.now)) result (name_behind keyword.now line.now) }
+{
+    let rest = expect(line, keyword)?;
+    name(alloc, rest)
+}
+
+// The keyword, and a name at the end.
+#[tactic(auto, unfolding(crate::specs::Reading::last_name_behind))]
+pub fn last_name_behind(alloc: Global, line: &[u8], keyword: &[u8]) -> Result<Text, Unread>
+    ensures { Gives (λ name. name) result (last_name_behind keyword.now line.now) }
+{
+    let (name, rest) = name_behind(alloc, line, keyword)?;
+    if !is_end(rest) {
+        return Err(Unread::Malformed);
     }
-    str::from_utf8(line).ok()
+    Ok(name)
 }
 
-// The decimal number from `least` to `most` that is the first word.
-fn number(line: &[u8], least: u64, most: u64) -> Option<(u64, &[u8])>
-    ensures { MatchOption result
-        ((number : ℕ) (rest : List ℕ) → ¬ BeginsWithNumber line.now least most number rest)
-        (λ read. BeginsWithNumber line.now least most read.0 read.1.now) }
+// The keyword, and a number from `least` to `most`.
+#[tactic(auto, unfolding(crate::specs::Reading::number_behind))]
+pub fn number_behind<'a>(
+    line: &'a [u8],
+    keyword: &[u8],
+    least: u64,
+    most: u64,
+) -> Result<(u64, &'a [u8]), Unread>
+    ensures read { Gives (λ read. (read.0, read.1.now)) result (number_behind keyword.now least most line.now) }
+    ensures within { IfOk result (λ read. IsBetween least most read.0) }
 {
-    let (word, rest) = first_word(line);
-    let number = decimal_value(word)?;
+    let rest = expect(line, keyword)?;
+    let (word, rest) = split_at_first(rest, b' ');
+    let number = number(word)?;
     if number < least || most < number {
-        return None;
+        return Err(Unread::Malformed);
     }
-    Some((number, rest))
+    Ok((number, rest))
 }
 
-// The keyword and the number from `least` to `most` that is the word behind it.
-pub fn setting<'a>(line: &'a [u8], word: &[u8], least: u64, most: u64) -> Option<(u64, &'a [u8])>
-    ensures { MatchOption result
-        ((number : ℕ) (rest : List ℕ) → ¬ BeginsWithSetting line.now word.now least most number rest)
-        (λ read. BeginsWithSetting line.now word.now least most read.0 read.1.now) }
+// A space, and the id of a message.
+#[tactic(auto, unfolding(crate::specs::Reading::message_id_at))]
+pub fn message_id(line: &[u8]) -> Result<(MessageId, &[u8]), Unread>
+    ensures { Gives (λ read. (read.0, read.1.now)) result (message_id_at line.now) }
 {
-    number(keyword(line, word)?, least, most)
+    let rest = expect(line, b" ")?;
+    let (word, rest) = split_at_first(rest, b' ');
+    let (epoch, behind) = split_at_first(word, b'-');
+    let epoch = id_part(epoch)?;
+    let number = id_part(expect(behind, b"-")?)?;
+    Ok((MessageId { epoch, number }, rest))
+}
+
+#[tactic(auto, unfolding(crate::specs::Reading::id_part_of))]
+fn id_part(digits: &[u8]) -> Result<u32, Unread>
+    ensures { Gives (λ part. part) result (id_part_of digits.now) }
+{
+    let number = number(digits)?;
+    if number == 0 || number > u64::from(u32::MAX) {
+        return Err(Unread::Malformed);
+    }
+    Ok(number as u32)
+}
+
+// The bytes that the digits spell.
+pub fn hex_of(alloc: Global, digits: &[u8]) -> Result<Octets, Unread>
+    ensures { Gives (λ bytes. bytes) result (hex_of digits.now) }
+{
+    if is(digits, "-") {
+        return Ok(Octets::new(alloc));
+    }
+    match hex::decode(alloc, digits) {
+        Ok(bytes) => some_bytes(bytes),
+        Err(error) => Err(unread(error)),
+    }
+}
+
+fn unread(error: FromHexError) -> Unread
+    ensures { result ≡ unread_of error }
+{
+    match error {
+        FromHexError::OutOfMemory => Unread::Memory,
+        FromHexError::InvalidHexCharacter { .. }
+        | FromHexError::OddLength
+        | FromHexError::InvalidStringLength => Unread::Malformed,
+    }
+}
+
+fn some_bytes(bytes: Vec<u8>) -> Result<Octets, Unread>
+    ensures { Gives (λ bytes. bytes) result (guarded (not (is_empty bytes.items)) bytes.items) }
+{
+    if bytes.is_empty() {
+        return Err(Unread::Malformed);
+    }
+    Ok(Octets::from_vec(bytes))
+}
+
+// The number that the digits write.
+pub fn number(digits: &[u8]) -> Result<u64, Unread>
+    ensures { Gives (λ number. number) result (number_of digits.now) }
+{
+    match decimal_value(digits) {
+        Some(number) => Ok(number),
+        None => Err(Unread::Malformed),
+    }
 }
 
 // The number that the digits write, with no sign and no zero in front of another digit.
@@ -100,27 +201,4 @@ fn begins_as_number(digits: &[u8]) -> bool
         Some(b'0') => digits.len() == 1,
         _ => true,
     }
-}
-
-fn is_name(word: &[u8]) -> bool
-    ensures { IsTrue result ↔ IsName word.now }
-{
-    match word.first() {
-        Some(first) => word.len() <= LONGEST_NAME
-            && is_name_start(*first)
-            && word.iter().all(|byte| is_name_byte(*byte)),
-        None => false,
-    }
-}
-
-fn is_name_start(byte: u8) -> bool
-    ensures { IsTrue result ↔ IsNameStart byte }
-{
-    byte.is_ascii_alphabetic() || byte == b'_'
-}
-
-fn is_name_byte(byte: u8) -> bool
-    ensures { IsTrue result ↔ IsNameByte byte }
-{
-    is_name_start(byte) || byte.is_ascii_digit() || byte == b'.' || byte == b'-'
 }

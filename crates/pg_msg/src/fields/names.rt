@@ -58,7 +58,8 @@ pub fn text_of(alloc: Global, bytes: &[u8]) -> Result<Text, Unread>
     }
 }
 
-fn name_of(alloc: Global, name: &[u8]) -> Result<Text, Unread>
+/// A copy of the bytes as a name. Malformed where they spell none.
+pub fn name_of(alloc: Global, name: &[u8]) -> Result<Text, Unread>
     ensures { Gives (λ name. name) result (guarded (is_name name.now) name.now) }
 {
     if !is_name(name) {
@@ -67,7 +68,8 @@ fn name_of(alloc: Global, name: &[u8]) -> Result<Text, Unread>
     text_of(alloc, name)
 }
 
-fn property_name_of(alloc: Global, name: &[u8]) -> Result<Text, Unread>
+/// A copy of the bytes as the name of a property. Malformed where they spell none.
+pub fn property_name_of(alloc: Global, name: &[u8]) -> Result<Text, Unread>
     ensures { Gives (λ name. name) result (guarded (is_property_name name.now) name.now) }
 {
     if !is_property_name(name) {

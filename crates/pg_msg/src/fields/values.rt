@@ -59,8 +59,8 @@ fn read_property(alloc: Global, bytes: &[u8]) -> Result<(Property, &[u8]), Unrea
     Ok((Property { name, value }, rest))
 }
 
-// No two properties have one name. Each is compared with those behind it: there are at most 100.
-fn names_differ(properties: &[Property]) -> bool
+/// Whether no two properties have one name. Each is compared with those behind it: there are at most 100.
+pub fn names_differ(properties: &[Property]) -> bool
     ensures { result ≡ are_distinct (map (λ property. property.name) properties.now) }
 {
     let mut rest = properties;

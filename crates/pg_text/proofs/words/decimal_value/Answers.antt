@@ -1,6 +1,6 @@
 use Rattle.std.proofs.Common.{◌≡◌, sym, ◌∙◌, subst, refl}
 use Rattle.std.specs.Str.{IsUtf8}
-use Rattle.pg_text.specs.Words.{BeginsAsNumber}
+use Rattle.pg_text.specs.Reading.{BeginsAsNumber}
 use Rattle.pg_text.proofs.NumeralLemmas.{BeginsAsNumber-decimal, parse_decimal, IsUtf8-decimal, not_utf8, utf8_bytes}
 use Rattle.pg_text.proofs.words.decimal_value.Goals as goal
 
