@@ -1,0 +1,6 @@
+pub mod Actions
+pub mod Broker
+pub mod Causes
+pub mod Changes
+pub mod Refusals
+pub mod Steps
