@@ -1,6 +1,8 @@
 pub mod AddressLemmas
 pub mod FoldLaws
 pub mod JournaledLemmas
+pub mod JournalOrderLemmas
+pub mod MessagePairs
 pub mod QueueIndexLemmas
 pub mod QueueLemmas
 pub mod SoundAddresses

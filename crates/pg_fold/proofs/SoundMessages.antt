@@ -1,25 +1,26 @@
 -- Messages that come and go, among those that are sound.
-use Rattle.std.proofs.Common.{◌≡◌, ℕ, suc, ◌≤◌, Bool, true, false, not, ◌&&◌, ◌==◌, List, [], ◌∷◌, ◌++◌, map, refl, sym, ◌∙◌, subst, arith, eqb-true}
+use Rattle.std.proofs.Common.{◌≡◌, ℕ, ◌≤◌, Bool, true, false, not, ◌&&◌, ◌==◌, List, [], ◌∷◌, ◌++◌, map, refl, sym, ◌∙◌, subst, arith, eqb-true}
 use Rattle.std.specs.Prelude.{filter}
-use Rattle.std.specs.List.{All, AllPairs, list_all}
+use Rattle.std.specs.List.{All, list_all}
 use Rattle.std.proofs.lemmas.Bool.{and_from, and_parts, cond_both, or_left}
-use Rattle.std.proofs.lemmas.List.Elements.{All-cons, All-filter, All-head, All-map, All-push, All-tail, All-weaker, filter_passes}
+use Rattle.std.proofs.lemmas.List.Elements.{All-filter, All-map, All-push, All-weaker, filter_passes}
 use Rattle.std.proofs.lemmas.List.Folds.{list_any-append}
-use Rattle.std.proofs.lemmas.List.Kept.{AllPairs-cons, AllPairs-filter}
+use Rattle.std.proofs.lemmas.List.Kept.{AllPairs-filter}
 use Rattle.std.proofs.lemmas.List.Quantifiers.{all_pairs_push}
 use Rattle.pg_msg.specs.declared.message.MessageId.{MessageId}
 use Rattle.pg_msg.specs.Messages.{IsMessage}
 use Rattle.pg_fold.specs.declared.rows.AddressRow.{AddressRow}
 use Rattle.pg_fold.specs.declared.rows.JournaledRow.{JournaledRow}
 use Rattle.pg_fold.specs.declared.rows.QueueRow.{QueueRow}
-use Rattle.pg_fold.specs.Rows.{acknowledged, dropped, has_address, has_message, has_queue_at, is_held, released, same_id, with_row, without_queue}
+use Rattle.pg_fold.specs.Rows.{acknowledged, dropped, has_address, has_message, has_queue_at, is_held, released, same_id, without_queue}
 use Rattle.pg_fold.specs.Sound.{AreMessages, IsHeldRow}
+use Rattle.pg_fold.proofs.MessagePairs.{all_acknowledged, By, pairs_acknowledged, pairs_released}
 use Rattle.pg_fold.proofs.SoundAddresses.{each_fails, still_address}
 use Rattle.pg_fold.proofs.SoundQueues.{any_kept}
 
 -- the ids of two messages
-abbrev Differ : JournaledRow → JournaledRow → Type 0
-Differ row other = same_id row.message.id other.message.id ≡ false
+abbrev Differ : MessageId → MessageId → Type 0
+Differ id other = same_id id other ≡ false
 
 abbrev Begun : ℕ → JournaledRow → Type 0
 Begun epoch row = row.message.id.epoch ≤ epoch
@@ -27,60 +28,27 @@ Begun epoch row = row.message.id.epoch ≤ epoch
 abbrev Spelled : JournaledRow → Type 0
 Spelled row = IsMessage row.message
 
--- the first of some that differ in pairs, and those behind it
-pairs_head : (x : JournaledRow) (xs : List JournaledRow) → AllPairs Differ (x ∷ xs) → All (Differ x) xs
-pairs_head x xs pairs k d lt = pairs 0 (suc k) d (omega arith) (omega (arith, lt))
-
-pairs_tail : (x : JournaledRow) (xs : List JournaledRow) → AllPairs Differ (x ∷ xs) → AllPairs Differ xs
-pairs_tail x xs pairs i j d less lt = pairs (suc i) (suc j) d (omega (arith, less)) (omega (arith, lt))
-
--- messages of which holders go are the same messages
-pairs_released : (queue : ℕ) (rows : List JournaledRow) → AllPairs Differ rows → AllPairs Differ (map (released queue) rows)
-pairs_released queue [] pairs = λ i j d less lt. absurd (omega (arith, lt))
-pairs_released queue (row ∷ rows) pairs =
-    AllPairs-cons Differ (released queue row) (map (released queue) rows) (All-map (Differ row) (released queue) rows (pairs_head row rows pairs)) (pairs_released queue rows (pairs_tail row rows pairs))
-
--- What an acknowledgement leaves has what each message has, where it stays as holders go.
-all_acknowledged : (P : JournaledRow → Type 0) (queue : ℕ) (id : MessageId) → ((row : JournaledRow) → is_held (released queue row) ≡ true → P row → P (released queue row)) → (rows : List JournaledRow) → All P rows
-    → All P (acknowledged queue id rows)
-all_acknowledged P queue id stays [] all = all
-all_acknowledged P queue id stays (row ∷ rows) all =
-    let here = All-head P row rows all in
-    let others = All-tail P row rows all in
-    cond_both (same_id row.message.id id) (with_row (released queue row) rows) (row ∷ acknowledged queue id rows) (All P)
-    (λ _. cond_both (is_held (released queue row)) (released queue row ∷ rows) rows (All P) (λ held. All-cons P (released queue row) rows (stays row held here) others) (λ _. others))
-    (λ _. All-cons P row (acknowledged queue id rows) here (all_acknowledged P queue id stays rows others))
-
-pairs_acknowledged : (queue : ℕ) (id : MessageId) (rows : List JournaledRow) → AllPairs Differ rows → AllPairs Differ (acknowledged queue id rows)
-pairs_acknowledged queue id [] pairs = pairs
-pairs_acknowledged queue id (row ∷ rows) pairs =
-    let here = pairs_head row rows pairs in
-    let others = pairs_tail row rows pairs in
-    cond_both (same_id row.message.id id) (with_row (released queue row) rows) (row ∷ acknowledged queue id rows) (AllPairs Differ)
-    (λ _. cond_both (is_held (released queue row)) (released queue row ∷ rows) rows (AllPairs Differ) (λ _. AllPairs-cons Differ (released queue row) rows here others) (λ _. others))
-    (λ _. AllPairs-cons Differ row (acknowledged queue id rows) (all_acknowledged (Differ row) queue id (λ other _ is. is) rows here) (pairs_acknowledged queue id rows others))
-
 pub messages_later : (epoch later : ℕ) (rows : List JournaledRow) → epoch ≤ later → AreMessages epoch rows → AreMessages later rows
 messages_later epoch later rows le sound = record { ids = sound.ids; begun = All-weaker (Begun epoch) (Begun later) (λ r is. omega (arith, is, le)) rows sound.begun; messages = sound.messages }
 
 pub messages_push : (epoch : ℕ) (rows : List JournaledRow) (row : JournaledRow) → AreMessages epoch rows → has_message rows row.message.id ≡ false → row.message.id.epoch ≤ epoch → IsMessage row.message
     → AreMessages epoch (rows ++ row ∷ [])
 messages_push epoch rows row sound new begun message = record {
-  ids = all_pairs_push Differ rows row sound.ids (each_fails (λ r. same_id r.message.id row.message.id) rows new);
+  ids = all_pairs_push (By Differ) rows row sound.ids (each_fails (λ r. same_id r.message.id row.message.id) rows new);
   begun = All-push (Begun epoch) rows row sound.begun begun;
   messages = All-push Spelled rows row sound.messages message;
 }
 
 pub messages_dropped : (epoch queue : ℕ) (rows : List JournaledRow) → AreMessages epoch rows → AreMessages epoch (dropped queue rows)
 messages_dropped epoch queue rows sound = record {
-  ids = AllPairs-filter Differ is_held (map (released queue) rows) (pairs_released queue rows sound.ids);
+  ids = AllPairs-filter (By Differ) is_held (map (released queue) rows) (pairs_released Differ queue rows sound.ids);
   begun = All-filter is_held (Begun epoch) (map (released queue) rows) (All-map (Begun epoch) (released queue) rows sound.begun);
   messages = All-filter is_held Spelled (map (released queue) rows) (All-map Spelled (released queue) rows sound.messages);
 }
 
 pub messages_acknowledged : (epoch queue : ℕ) (id : MessageId) (rows : List JournaledRow) → AreMessages epoch rows → AreMessages epoch (acknowledged queue id rows)
 messages_acknowledged epoch queue id rows sound = record {
-  ids = pairs_acknowledged queue id rows sound.ids;
+  ids = pairs_acknowledged Differ queue id rows sound.ids;
   begun = all_acknowledged (Begun epoch) queue id (λ row _ is. is) rows sound.begun;
   messages = all_acknowledged Spelled queue id (λ row _ is. is) rows sound.messages;
 }

@@ -7,6 +7,7 @@ ghost use Rattle.pg_fold.specs.Rows.{has_queue_named};
 
 use crate::addresses::AddressRows;
 use crate::fold_error::FoldError;
+use crate::holders::Holders;
 use crate::journaled::JournaledRows;
 use crate::queues::QueueRows;
 use crate::rows::{AddressRow, JournaledRow, QueueRow};
@@ -127,7 +128,7 @@ impl Durable {
                 address,
                 queues,
                 message,
-            } => self.add_message(address, queues, message),
+            } => self.add_message(alloc, address, queues, message),
             Entry::Ack { queue, message } => Ok(self.acknowledge(alloc, queue, message)),
             Entry::NextQueue { queue } => Ok(self.set_next(queue)),
             // The condition of none of these holds yet.
@@ -268,17 +269,19 @@ impl Durable {
 
     fn add_message(
         mut self,
+        alloc: Global,
         address: u32,
         queues: QueueIds,
         message: Message,
     ) -> Result<Durable, AllocError>
         ensures { IfOk result (λ after. after ≡ changed self (entries.Add address queues message)) }
     {
-        self.journaled.push(JournaledRow {
+        let row = JournaledRow {
             address,
             message,
-            holders: queues,
-        })?;
+            holders: Holders::from_ids(queues),
+        };
+        self.journaled.push(alloc, row)?;
         Ok(self)
     }
 

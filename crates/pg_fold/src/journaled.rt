@@ -1,32 +1,40 @@
 // The messages that are held in the journal.
-ghost use Rattle.std.specs.Prelude.{◌≡◌, ◌++◌, ◌∷◌, [], map, filter, position, OnOk, OnErr};
-ghost use Rattle.pg_fold.specs.Rows.{has_message, has_holder, has_number, without_number, released, is_held, dropped, acknowledged, is_above, same_id};
+ghost use Rattle.std.specs.Prelude.{◌≡◌, ◌<◌, ◌++◌, ◌∷◌, [], length, map, filter, slice_index_or, OnOk, OnErr};
+ghost use Rattle.std.specs.List.{position};
+ghost use Rattle.pg_fold.specs.Rows.{has_message, has_holder, has_number, released, is_held, dropped, acknowledged, is_above, same_id};
+ghost use Rattle.pg_fold.specs.JournalOrder.{AreAscendingIds};
 
+use crate::held::Held;
 use crate::rows::JournaledRow;
-use pg_msg::{MessageId, QueueIds};
+use pg_msg::MessageId;
 use std::alloc::{AllocError, Global};
+use std::collections::VecDeque;
 use std::marker::Model;
 
 /// The messages that are held in the journal, in the order in which they were added.
 ///
-/// A message that is newer than all before it is known to be new without a look at them. An acknowledgement looks for
-/// its message from the front on, and moves those behind it where it is taken out, for now.
+/// Where their ids ascend, a message is looked for by a binary search; they do unless a message was added whose id is
+/// below that of one before it, and then they are walked. A message that is newer than all before it is known to be
+/// new without a look at them. Taking one out moves the pointers of those before it or of those behind it, whichever
+/// are fewer, so none of them where it is the first.
 pub struct JournaledRows {
-    rows: Vec<JournaledRow>,
+    rows: VecDeque<Held>,
     // No id is above this one.
     greatest: MessageId,
+    // Whether the ids ascend.
+    ascending: bool,
 }
 
 impl Model for JournaledRows {
     ghost use Rattle.std.specs.Prelude.{List};
     ghost use Rattle.pg_fold.specs.declared.rows.JournaledRow.{JournaledRow};
-    ghost use Rattle.pg_fold.specs.Rows.{AreUpTo};
+    ghost use Rattle.pg_fold.specs.JournalOrder.{AreInOrder};
 
     ghost Value = { List JournaledRow };
 
     ghost view = { λ journaled. journaled.rows.items };
 
-    ghost invariant = { λ journaled. AreUpTo journaled.greatest journaled.rows.items };
+    ghost invariant = { λ journaled. AreInOrder journaled.ascending journaled.greatest journaled.rows.items };
 }
 
 impl Drop for JournaledRows {
@@ -34,6 +42,7 @@ impl Drop for JournaledRows {
         let JournaledRows {
             rows: _rows,
             greatest: _greatest,
+            ascending: _ascending,
         } = self;
     }
 }
@@ -44,44 +53,65 @@ impl JournaledRows {
         ensures { result ≡ [] }
     {
         JournaledRows {
-            rows: Vec::new(alloc),
+            rows: VecDeque::new(alloc),
             greatest: MessageId {
                 epoch: 0,
                 number: 0,
             },
+            ascending: true,
         }
     }
 
-    /// The messages with their holders as a slice.
-    pub fn as_slice(&self) -> &[JournaledRow]
-        ensures { result.now ≡ self.now }
+    /// How many they are.
+    pub fn len(&self) -> usize
+        ensures { result ≡ length self.now }
     {
-        self.rows.as_slice()
+        self.rows.len()
+    }
+
+    /// The message at the place, from 0, with its holders.
+    pub fn row(&self, place: usize) -> &JournaledRow
+        requires { place < length self.now }
+        ensures { result.now ≡ slice_index_or self.now place result.now }
+    {
+        self.rows[place].row()
     }
 
     // Whether there is one with this id.
     pub(crate) fn has(&self, id: MessageId) -> bool
         ensures { result ≡ has_message self.now id }
     {
-        !is_newer(id, self.greatest) && self.rows.iter().any(|row| row.message.id == id)
+        if is_newer(id, self.greatest) {
+            return false;
+        }
+        self.place_of(id).is_some()
     }
 
     // Whether there is one with this id that the queue holds.
     pub(crate) fn has_holder(&self, id: MessageId, queue: u32) -> bool
         ensures { result ≡ has_holder self.now id queue }
     {
-        self.rows.iter().any(|row| row.message.id == id && row.holders.as_slice().contains(&queue))
+        if !self.ascending {
+            return walked_holder(&self.rows, id, queue);
+        }
+        match searched_place(&self.rows, id) {
+            Some(place) => holds(self.rows[place].row(), queue),
+            None => false,
+        }
     }
 
-    // Appends the message. Fails only where there is no memory for it.
-    pub(crate) fn push(&mut self, row: JournaledRow) -> Result<(), AllocError>
+    /// Appends the message. Fails only where there is no memory for it.
+    pub fn push(&mut self, alloc: Global, row: JournaledRow) -> Result<(), AllocError>
         ensures ok { OnOk result (self.new ≡ self.old ++ row ∷ []) }
         ensures err { OnErr result (self.new ≡ self.old) }
     {
         let id = row.message.id;
-        self.rows.push(row)?;
+        let held = Held::new(alloc, row)?;
+        self.rows.push_back(held)?;
         if is_newer(id, self.greatest) {
             self.greatest = id;
+        } else {
+            self.ascending = false;
         }
         Ok(())
     }
@@ -90,7 +120,8 @@ impl JournaledRows {
     pub(crate) fn acknowledge(&mut self, alloc: Global, id: MessageId, queue: u32)
         ensures { self.new ≡ acknowledged queue id self.old }
     {
-        acknowledge_in(alloc, &mut self.rows, id, queue);
+        let place = self.place_of(id);
+        acknowledge_at(alloc, &mut self.rows, place, id, queue);
     }
 
     // Takes the queue from the holders of every message, and away what no queue holds.
@@ -98,6 +129,17 @@ impl JournaledRows {
         ensures { self.new ≡ dropped queue self.old }
     {
         drop_in(alloc, &mut self.rows, queue);
+    }
+
+    // The place of the first message with this id.
+    fn place_of(&self, id: MessageId) -> Option<usize>
+        ensures { result ≡ position (λ row. same_id row.message.id id) self.now }
+    {
+        if self.ascending {
+            searched_place(&self.rows, id)
+        } else {
+            walked_place(&self.rows, id)
+        }
     }
 }
 
@@ -108,28 +150,63 @@ fn is_newer(id: MessageId, other: MessageId) -> bool
     id.epoch > other.epoch || id.epoch == other.epoch && id.number > other.number
 }
 
-// The place of the first message with this id.
-fn place_of(rows: &[JournaledRow], id: MessageId) -> Option<usize>
-    ensures { result ≡ position (λ row. same_id row.message.id id) rows.now }
+// Whether the queue holds the message.
+fn holds(row: &JournaledRow, queue: u32) -> bool
+    ensures { result ≡ has_number row.now.holders queue }
 {
-    rows.iter().position(|row| row.message.id == id)
+    row.holders.as_slice().contains(&queue)
 }
 
-// Takes the queue from the holders of the message with this id, and the message away where that was the last.
-fn acknowledge_in(alloc: Global, rows: &mut Vec<JournaledRow>, id: MessageId, queue: u32)
+// The place of the first message with this id, where the ids ascend.
+fn searched_place(rows: &VecDeque<Held>, id: MessageId) -> Option<usize>
+    requires { AreAscendingIds rows.now.items }
+    ensures { result ≡ position (λ row. same_id row.message.id id) rows.now.items }
+{
+    let place = rows.partition_point(|held| is_newer(id, held.row().message.id));
+    if place < rows.len() && rows[place].row().message.id == id {
+        Some(place)
+    } else {
+        None
+    }
+}
+
+// The place of the first message with this id, by a walk over all.
+fn walked_place(rows: &VecDeque<Held>, id: MessageId) -> Option<usize>
+    ensures { result ≡ position (λ row. same_id row.message.id id) rows.now.items }
+{
+    rows.iter().position(|held| held.row().message.id == id)
+}
+
+// Whether there is a message with this id that the queue holds, by a walk over all.
+fn walked_holder(rows: &VecDeque<Held>, id: MessageId, queue: u32) -> bool
+    ensures { result ≡ has_holder rows.now.items id queue }
+{
+    rows.iter().any(|held| held.row().message.id == id && holds(held.row(), queue))
+}
+
+// Takes the queue from the holders of the message with this id, which is the one at the place, and the message away
+// where that was the last.
+fn acknowledge_at(
+    alloc: Global,
+    rows: &mut VecDeque<Held>,
+    place: Option<usize>,
+    id: MessageId,
+    queue: u32,
+)
+    requires { place ≡ position (λ row. same_id row.message.id id) rows.old.items }
     ensures { rows.new.items ≡ acknowledged queue id rows.old.items }
 {
-    let Some(place) = place_of(rows.as_slice(), id) else {
+    let Some(place) = place else {
         return;
     };
-    release(alloc, &mut rows[place], queue);
-    if !is_still_held(&rows[place]) {
+    rows[place].release(alloc, queue);
+    if !rows[place].is_held() {
         let _ = rows.remove(place);
     }
 }
 
 // Takes the queue from the holders of every message, and away what no queue holds.
-fn drop_in(alloc: Global, rows: &mut Vec<JournaledRow>, queue: u32)
+fn drop_in(alloc: Global, rows: &mut VecDeque<Held>, queue: u32)
     ensures { rows.new.items ≡ dropped queue rows.old.items }
 {
     release_all(alloc, rows, queue);
@@ -137,39 +214,17 @@ fn drop_in(alloc: Global, rows: &mut Vec<JournaledRow>, queue: u32)
 }
 
 // Takes away what no queue holds.
-fn keep_held(rows: &mut Vec<JournaledRow>)
+fn keep_held(rows: &mut VecDeque<Held>)
     ensures { rows.new.items ≡ filter is_held rows.old.items }
 {
-    rows.retain(is_still_held);
-}
-
-fn is_still_held(row: &JournaledRow) -> bool
-    ensures { result ≡ is_held row.now }
-{
-    !row.holders.as_slice().is_empty()
-}
-
-// Takes the queue from the holders of the message.
-fn release(alloc: Global, row: &mut JournaledRow, queue: u32)
-    ensures { row.new ≡ released queue row.old }
-{
-    let holders = std::mem::replace(&mut row.holders, QueueIds::new(alloc));
-    row.holders = without(holders, queue);
-}
-
-fn without(holders: QueueIds, queue: u32) -> QueueIds
-    ensures { result ≡ without_number queue holders }
-{
-    let mut ids = holders.into_vec();
-    ids.retain(|id| *id != queue);
-    QueueIds::from_vec(ids)
+    rows.retain(|held| held.is_held());
 }
 
 // Takes the queue from the holders of each message.
-fn release_all(alloc: Global, rows: &mut [JournaledRow], queue: u32)
-    ensures { rows.new ≡ map (released queue) rows.old }
+fn release_all(alloc: Global, rows: &mut VecDeque<Held>, queue: u32)
+    ensures { rows.new.items ≡ map (released queue) rows.old.items }
 {
-    for row in rows.iter_mut() {
-        release(alloc, row, queue);
+    for place in 0..rows.len() {
+        rows[place].release(alloc, queue);
     }
 }

@@ -4,6 +4,8 @@
 mod addresses;
 mod durable;
 mod fold_error;
+mod held;
+mod holders;
 mod journaled;
 mod laws;
 mod queues;
@@ -12,6 +14,7 @@ mod rows;
 pub use addresses::AddressRows;
 pub use durable::Durable;
 pub use fold_error::FoldError;
+pub use holders::Holders;
 pub use journaled::JournaledRows;
 pub use laws::{fold_in_parts, folded_is_sound};
 pub use queues::QueueRows;

@@ -1,7 +1,8 @@
 // One row of each kind.
 
+use crate::holders::Holders;
 use pg_bytes::Text;
-use pg_msg::{Message, QueueIds};
+use pg_msg::Message;
 
 /// An address. `docs/FORMATS.md` gives the ranges of the settings.
 #[derive(PartialEq, Eq)]
@@ -58,13 +59,12 @@ impl Drop for QueueRow {
 }
 
 /// A message that is held in the journal.
-#[derive(PartialEq, Eq)]
 pub struct JournaledRow {
     /// The id of its address.
     pub address: u32,
     pub message: Message,
     /// The ids of the queues that hold it, in the order in which the entry named them.
-    pub holders: QueueIds,
+    pub holders: Holders,
 }
 
 impl Drop for JournaledRow {

@@ -3,7 +3,7 @@ use crate::entries::{
     FIRST, SECOND, Settings, USUAL, add, address, applied, broken, made, numbered, queue,
 };
 use pg_disk::Rule;
-use pg_fold::{Durable, FoldError};
+use pg_fold::{Durable, FoldError, JournaledRow};
 use pg_msg::MessageId;
 use pg_records::Entry;
 use std::alloc::Global;
@@ -28,10 +28,13 @@ fn has_queue(durable: &Durable, at: usize, id: u32, address: u32, name: &str) ->
     })
 }
 
-fn is_held(durable: &Durable, at: usize, id: MessageId, holders: &[u32]) -> bool {
-    durable.journaled.as_slice().get(at).is_some_and(|row| {
-        row.address == 1 && row.message.id == id && row.holders.as_slice() == holders
-    })
+fn is_row(row: &JournaledRow, id: MessageId, holders: &[u32]) -> bool {
+    row.address == 1 && row.message.id == id && row.holders.as_slice() == holders
+}
+
+/// Whether the message at the place is this one, of the first address, and these queues hold it.
+pub fn is_held(durable: &Durable, at: usize, id: MessageId, holders: &[u32]) -> bool {
+    at < durable.journaled.len() && is_row(durable.journaled.row(at), id, holders)
 }
 
 // How many rows there are of each kind, the epoch, and the next queue.
@@ -39,7 +42,7 @@ fn counts(durable: &Durable) -> (usize, usize, usize, u32, u32) {
     (
         durable.addresses.as_slice().len(),
         durable.queues.as_slice().len(),
-        durable.journaled.as_slice().len(),
+        durable.journaled.len(),
         durable.epoch,
         durable.next,
     )

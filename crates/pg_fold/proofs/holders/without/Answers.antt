@@ -1,7 +1,7 @@
 use Rattle.std.proofs.Common.{not, eqb, ap, ◌∙◌, rules}
 use Rattle.std.proofs.lemmas.Fn.{filter_same}
 use Rattle.pg_fold.specs.Rows.{without_number}
-use Rattle.pg_fold.proofs.journaled.without.Goals as goal
+use Rattle.pg_fold.proofs.holders.without.Goals as goal
 
 pub returns : goal.returns
 returns c =
