@@ -1,7 +1,9 @@
 -- What the engine's own files denote, and a command that appends one batch to the journal.
 use Rattle.std.proofs.Common.{◌≡◌, ◌≢◌, ◌⊎◌, inl, inr, ⊎_elim, ℕ, ◌+◌, ◌<◌, ◌^◌, List, [], ◌∷◌, ◌++◌, length, Option, Some, None, Result, Ok, Err, refl, sym, ◌∙◌, ap, subst, arith}
 use Rattle.std.specs.Prelude.{IfOk, OnOk, IsErr}
-use Rattle.std.specs.FinMap.{FinMap}
+use Rattle.std.specs.FinMap.{FinMap, get}
+use Rattle.std.proofs.lemmas.Option.{same_Some}
+use Rattle.pg_disk.specs.declared.file_id.FileId.{FileId}
 use Rattle.pg_disk.specs.declared.disk.Disk.{Ghosts}
 use Rattle.pg_disk.specs.declared.fault.Fault.{Fault}
 use Rattle.pg_disk.specs.declared.fault.Fault.TheVariants.{Failed, Damaged, Spent, Memory}
@@ -17,29 +19,37 @@ use Rattle.pg_gate.specs.Gated.{Anyhow}
 use Rattle.pg_msg.specs.declared.command.Command.{Command}
 use Rattle.pg_msg.specs.declared.reply.Refusal.{Refusal}
 use Rattle.pg_msg.specs.declared.reply.Reply.{Reply}
+use Rattle.pg_msg.specs.declared.reply.Refusal.TheVariants.{Line}
 use Rattle.pg_msg.specs.declared.reply.Reply.TheVariants.{No}
+use Rattle.pg_model.specs.Actions.{Action}
+use Rattle.pg_model.specs.Refusals.{causes}
+use Rattle.pg_model.specs.Steps.{Step, asked}
+use Rattle.pg_model.proofs.CauseLaws.{one_first}
 use Rattle.pg_records.specs.declared.entry.Entry.{Entry}
 use Rattle.pg_records.specs.Entries.{batch_bytes, HasFields, SpellsBatch, SpellBatches}
 use Rattle.pg_fold.specs.declared.durable.Durable.{Durable as Folded}
 use Rattle.pg_fold.specs.Fold.{fold, fresh}
 use Rattle.pg_fold.proofs.FoldLaws.{fold_applied}
+use Rattle.pg_fold.proofs.SoundLaws.{sound_folded}
 use Rattle.pg_journal.specs.declared.journal.Journal.{Journal}
 use Rattle.pg_journal.specs.Generations.{JournalOf}
-use Rattle.pg_disk.specs.Views.{Contents, as_left, as_read}
+use Rattle.pg_disk.specs.Views.{Contents, as_left, as_read, bytes_of}
 use Rattle.pg_journal.specs.Looks.{LeavesOldOrNew}
 use Rattle.pg_journal.specs.Stands.{Stands, counted, name_of}
 use Rattle.pg_journal.proofs.Saying.{stands_reads, stands_says}
-use Rattle.pg_recover.specs.Broker.{Broker, Durable, Step, refusal_of}
+use Rattle.pg_model.specs.Broker.{Durable}
 use Rattle.pg_recover.specs.Denotation.{Denotes, FoldsTo, durable_part}
+use Rattle.pg_recover.specs.Recovered.{Owns as OwnsJournal}
+use Rattle.pg_recover.specs.Viewing.{Shows}
 use Rattle.pg_recover.proofs.WellLemmas.{image_well}
 use Rattle.pg_recover.proofs.EpochLemmas.{spelled_push}
 use Rattle.pg_engine.specs.declared.engine.Engine.{Engine}
 use Rattle.pg_engine.specs.declared.state.Outcome.{Outcome}
 use Rattle.pg_engine.specs.declared.state.Outcome.TheVariants.{Changed, Unchanged}
-use Rattle.pg_engine.specs.Executed.{state_of, Owns, Keeps, Executes, MeetsLimit, Writes}
-use Rattle.pg_engine.specs.Kept.{Kept, broker_of}
-use Rattle.pg_engine.specs.Outcomes.{IsNoOutcome, IsOutcome, Records, batch_of, unless_refused, written_by}
-use Rattle.pg_engine.proofs.WellEngine.{GrowsTo, applied_grows, left_well, owned_sound, read_well, still_quiet}
+use Rattle.pg_engine.specs.Executed.{state_of, seen_by, Owns, OwnsPages, Keeps, Executes, MeetsLimit, WritesFor}
+use Rattle.pg_engine.specs.Kept.{Kept, broker_of, view_of}
+use Rattle.pg_engine.specs.Outcomes.{Adds, IsAccepted, IsNoOutcome, IsOutcome, MeetsNoQueueId, Records, RecordsAsked, WantsQueueId, entries_of, unless_refused}
+use Rattle.pg_engine.proofs.WellEngine.{Grows, grown, have_fields, left_well, owned_folds, owned_sound, pages_grown, pages_known, read_well, still_quiet}
 
 -- an answer that isn't Ok owes nothing of it
 not_ok : {T E : Type 0} (P : T → Type 0) (result : Result T E) → IsErr result → IfOk result P
@@ -60,68 +70,122 @@ spelled_denote contents batches entries d spelled folded says = record { state =
 -- whatever a crash leaves of the engine's files denotes its state
 pub owned_denote : (engine : Engine) (files : FinMap file_cmp FileState) (image : Files) → Owns engine files → IsImage files image → Denotes (as_left image) (state_of engine).durable
 owned_denote engine files image owns is =
-    spelled_denote (as_left image) owns.batches owns.entries engine.state.durable owns.spelled owns.folded
-    (stands_says engine.journal owns.batches files owns.stands image (is (name_of engine.journal)) (λ file kind other. inl (is file)))
+    let own = owns.journal in
+    spelled_denote (as_left image) own.batches own.entries engine.state.durable own.spelled own.folded
+    (stands_says engine.journal own.batches files own.stands image (is (name_of engine.journal)) (λ file kind other. inl (is file)))
+
+-- and they show what it tells of the addresses
+pub owned_shown : (engine : Engine) (files : FinMap file_cmp FileState) → Owns engine files → Shows (as_read files) (state_of engine).durable (seen_by engine)
+owned_shown engine files owns = record {
+  state = engine.state.durable;
+  folds = owned_folds engine.journal engine.state.durable files owns.journal;
+  is = refl;
+  each = λ k d within. record { resident = refl; paged = owns.pages.paged.each k d within };
+}
 
 -- an entry alone is a batch
 pub spells_one : (payload : List ℕ) (entry : Entry) → payload ≡ batch_bytes (entry ∷ []) → HasFields entry → SpellsBatch payload (entry ∷ [])
 spells_one payload entry is fields = record { bytes = is; some = λ e. cc; fields = (fields, tt) }
 
 -- what a command changed, or didn't, is a step of the broker on every site
-pub kept_steps : (s t : Kept) (command : Command) (reply : Reply) (outcome : Outcome) → outcome ≡ Unchanged t reply → IsOutcome s command outcome → Step (broker_of s) (Some command) reply (broker_of t)
+pub kept_steps : (s t : Kept) (command : Command) (reply : Reply) (outcome : Outcome) → outcome ≡ Unchanged t reply → IsOutcome s (asked (Some command)) outcome → Step (view_of s) (broker_of s) (Some command) reply (broker_of t)
 kept_steps s t command reply outcome is what =
-    let now : IsOutcome s command (Unchanged t reply) = subst (IsOutcome s command) is what in
-    subst (λ (k : Kept). Step (broker_of s) (Some command) reply (broker_of k)) (sym now.0) now.1
+    let now : IsOutcome s (asked (Some command)) (Unchanged t reply) = subst (IsOutcome s (asked (Some command))) is what in
+    subst (λ (k : Kept). Step (view_of s) (broker_of s) (Some command) reply (broker_of k)) (sym now.0) now.1
 
-pub changed_steps : (s t : Kept) (command : Command) (batch : List ℕ) (reply : Reply) (outcome : Outcome) → outcome ≡ Changed t batch reply → IsOutcome s command outcome → Step (broker_of s) (Some command) reply (broker_of t)
-changed_steps s t command batch reply outcome is what = let now : IsOutcome s command (Changed t batch reply) = subst (IsOutcome s command) is what in now.0
+pub changed_steps : (s t : Kept) (command : Command) (batch : List ℕ) (reply : Reply) (outcome : Outcome) → outcome ≡ Changed t batch reply → IsOutcome s (asked (Some command)) outcome → Step (view_of s) (broker_of s) (Some command) reply (broker_of t)
+changed_steps s t command batch reply outcome is what = let now : IsOutcome s (asked (Some command)) (Changed t batch reply) = subst (IsOutcome s (asked (Some command))) is what in now.0
+
+-- an action whose batch was recorded was asked for
+pub record Recorded (s : Kept) (asks : Option Action) (batch : List ℕ) (t : Kept) : Type 0 where
+  pub action : Action
+  pub is : asks ≡ Some action
+  pub records : Records s action batch t
+
+pub recorded_by : (s t : Kept) (asks : Option Action) (batch : List ℕ) → RecordsAsked s asks batch t → Recorded s asks batch t
+recorded_by s t None batch none = absurd none
+recorded_by s t (Some action) batch records = record { action = action; is = refl; records = records }
 
 -- where nothing is added to the journal, nothing is written
-pub kept_writes : (journal : Journal) (tells : Option Account) (s t : Kept) (command : Command) (reply : Reply) (outcome : Outcome) → outcome ≡ Unchanged t reply → IsOutcome s command outcome
-    → Changes tells tells (Writes journal journal (written_by (broker_of s) command))
-kept_writes journal tells s t command reply outcome is what =
-    let now : IsOutcome s command (Unchanged t reply) = subst (IsOutcome s command) is what in
-    subst (λ (batch : List Entry). Changes tells tells (Writes journal journal batch)) (sym now.2.nothing) (changes_none tells OnlyReads (λ h. record { files = refl; told = refl; taken = omega arith }))
+pub kept_writes : (engine : Engine) (tells : Option Account) (t : Kept) (command : Command) (reply : Reply) (outcome : Outcome) → outcome ≡ Unchanged t reply → IsOutcome engine.state (asked (Some command)) outcome
+    → Changes tells tells (WritesFor engine command engine.journal)
+kept_writes engine tells t command reply outcome is what =
+    let now : IsOutcome engine.state (asked (Some command)) (Unchanged t reply) = subst (IsOutcome engine.state (asked (Some command))) is what in
+    changes_weaker tells tells OnlyReads (WritesFor engine command engine.journal) (changes_none tells OnlyReads (λ h. record { files = refl; told = refl; taken = omega arith })) (λ h a. ([], now.2.nothing, a))
 
 -- the journal gets the batch of the command
-pub changed_writes : (journal next : Journal) (old new : Option Account) (s t : Kept) (command : Command) (payload : List ℕ) (reply : Reply) (outcome : Outcome) → outcome ≡ Changed t payload reply → IsOutcome s command outcome
-    → Changes old new (ChangesFile (name_of journal) Anyhow)
-    → (IsHonest old → (batches : List (List ℕ)) → Stands journal batches (account old).files → Stands next (batches ++ payload ∷ []) (account new).files)
-    → Changes old new (Writes journal next (written_by (broker_of s) command))
-changed_writes journal next old new s t command payload reply outcome is what change stands =
-    let now : IsOutcome s command (Changed t payload reply) = subst (IsOutcome s command) is what in
-    let records = now.1 in
-    let written : written_by (broker_of s) command ≡ records.entry ∷ [] = ap (λ (o : Option Refusal). unless_refused o (batch_of (broker_of s) command)) records.accepted ∙ records.batch_is in
-    subst (λ (batch : List Entry). Changes old new (Writes journal next batch)) (sym written)
-    (changes_weaker old new (ChangesFile (name_of journal) Anyhow) (Writes journal next (records.entry ∷ [])) change (λ h a. record {
-      told = a.told;
-      taken = omega (arith, a.taken);
-      others = a.others;
-      change = λ batches before. subst (λ (l : List ℕ). Stands next (batches ++ l ∷ []) (account new).files) records.bytes (stands h batches before);
-    }))
-
-no_batch : (s : Broker) (command : Command) → written_by s command ≡ [] → refusal_of s command ≡ None → batch_of s command ≡ []
-no_batch s command nothing accepted = sym (ap (λ (o : Option Refusal). unless_refused o (batch_of s command)) accepted) ∙ nothing
+pub changed_writes : (engine : Engine) (next : Journal) (old new : Option Account) (t : Kept) (command : Command) (payload : List ℕ) (reply : Reply) (outcome : Outcome) → outcome ≡ Changed t payload reply
+    → IsOutcome engine.state (asked (Some command)) outcome → Changes old new (ChangesFile (name_of engine.journal) Anyhow)
+    → (IsHonest old → (batches : List (List ℕ)) → Stands engine.journal batches (account old).files → Stands next (batches ++ payload ∷ []) (account new).files)
+    → Changes old new (WritesFor engine command next)
+changed_writes engine next old new t command payload reply outcome is what change stands =
+    let now : IsOutcome engine.state (asked (Some command)) (Changed t payload reply) = subst (IsOutcome engine.state (asked (Some command))) is what in
+    let done = recorded_by engine.state t (asked (Some command)) payload now.1 in
+    let records = done.records in
+    let adds : Adds engine.state (asked (Some command)) (records.entry ∷ []) = subst (λ (a : Option Action). Adds engine.state a (records.entry ∷ [])) (sym done.is) (None, records.accepted, sym records.batch_is) in
+    changes_weaker old new (ChangesFile (name_of engine.journal) Anyhow) (WritesFor engine command next) change (λ h a. (
+      records.entry ∷ [],
+      adds,
+      record {
+        told = a.told;
+        taken = omega (arith, a.taken);
+        others = a.others;
+        change = λ batches before. subst (λ (l : List ℕ). Stands next (batches ++ l ∷ []) (account new).files) records.bytes (stands h batches before);
+      },
+    ))
 
 -- a command that was executed met no limit
-pub kept_within : (engine : Engine) (t : Kept) (command : Command) (reply : Reply) (outcome : Outcome) → outcome ≡ Unchanged t reply → IsOutcome engine.state command outcome → MeetsLimit engine command → ⊥
-kept_within engine t command reply outcome is what meets =
-    let now : IsOutcome engine.state command (Unchanged t reply) = subst (IsOutcome engine.state command) is what in
-    ⊎_elim (λ none. now.2.queue_id meets.accepted none) (λ full. full.0 (no_batch (state_of engine) command now.2.nothing meets.accepted)) meets.full
+no_queue_id : (s : Kept) (asks : Option Action) (action : Action) → asks ≡ Some action → IsAccepted s action → WantsQueueId s action → MeetsNoQueueId s asks
+no_queue_id s asks action is accepted wants = subst (MeetsNoQueueId s) (sym is) (accepted, wants)
 
-pub changed_within : (engine : Engine) (t : Kept) (command : Command) (payload : List ℕ) (reply : Reply) (outcome : Outcome) → outcome ≡ Changed t payload reply → IsOutcome engine.state command outcome
+nothing_added : (s : Kept) (asks : Option Action) (action : Action) → asks ≡ Some action → IsAccepted s action → Adds s asks [] → entries_of s action ≡ []
+nothing_added s asks action is accepted adds =
+    let now : Adds s (Some action) [] = subst (λ (a : Option Action). Adds s a []) is adds in
+    sym (now.2 ∙ ap (λ (o : Option Refusal). unless_refused o (entries_of s action)) (one_first (causes (view_of s) (broker_of s) action) now.0 None now.1 accepted))
+
+pub kept_within : (engine : Engine) (t : Kept) (command : Command) (reply : Reply) (outcome : Outcome) → outcome ≡ Unchanged t reply → IsOutcome engine.state (asked (Some command)) outcome → MeetsLimit engine command → ⊥
+kept_within engine t command reply outcome is what meets =
+    let now : IsOutcome engine.state (asked (Some command)) (Unchanged t reply) = subst (IsOutcome engine.state (asked (Some command))) is what in
+    ⊎_elim (λ none. now.2.queue_id (no_queue_id engine.state (asked (Some command)) meets.action meets.asks meets.accepted none))
+    (λ full. full.0 (nothing_added engine.state (asked (Some command)) meets.action meets.asks meets.accepted now.2.nothing)) meets.full
+
+pub changed_within : (engine : Engine) (t : Kept) (command : Command) (payload : List ℕ) (reply : Reply) (outcome : Outcome) → outcome ≡ Changed t payload reply → IsOutcome engine.state (asked (Some command)) outcome
     → (2 ^ 62 < counted engine.journal + length payload + 9 → ⊥) → MeetsLimit engine command → ⊥
 changed_within engine t command payload reply outcome is what room meets =
-    let now : IsOutcome engine.state command (Changed t payload reply) = subst (IsOutcome engine.state command) is what in
-    let bytes : length (batch_bytes (batch_of (state_of engine) command)) ≡ length payload = ap (λ (b : List Entry). length (batch_bytes b)) now.1.batch_is ∙ sym (ap length now.1.bytes) in
-    ⊎_elim now.1.queue_id (λ full. room (omega (arith, full.1, bytes))) meets.full
+    let now : IsOutcome engine.state (asked (Some command)) (Changed t payload reply) = subst (IsOutcome engine.state (asked (Some command))) is what in
+    let done = recorded_by engine.state t (asked (Some command)) payload now.1 in
+    let same : done.action ≡ meets.action = same_Some done.action meets.action (sym done.is ∙ meets.asks) in
+    let records : Records engine.state meets.action payload t = subst (λ (a : Action). Records engine.state a payload t) same done.records in
+    let bytes : length (batch_bytes (entries_of engine.state meets.action)) ≡ length payload = ap (λ (b : List Entry). length (batch_bytes b)) records.batch_is ∙ sym (ap length records.bytes) in
+    ⊎_elim records.queue_id (λ full. room (omega (arith, full.1, bytes))) meets.full
+
+-- where a limit is told it was met
+pub spent_meets : (engine : Engine) (asks : Option Action) (command : Command) → asked (Some command) ≡ asks → MeetsNoQueueId engine.state asks → MeetsLimit engine command
+spent_meets engine None command is none = absurd none
+spent_meets engine (Some action) command is meets = record { action = action; asks = is; accepted = meets.0; full = inl meets.1 }
+
+pub full_meets : (engine : Engine) (t : Kept) (command : Command) (payload : List ℕ) (reply : Reply) (outcome : Outcome) → outcome ≡ Changed t payload reply → IsOutcome engine.state (asked (Some command)) outcome
+    → 2 ^ 62 < counted engine.journal + length payload + 9 → MeetsLimit engine command
+full_meets engine t command payload reply outcome is what full =
+    let now : IsOutcome engine.state (asked (Some command)) (Changed t payload reply) = subst (IsOutcome engine.state (asked (Some command))) is what in
+    let done = recorded_by engine.state t (asked (Some command)) payload now.1 in
+    let bytes : length (batch_bytes (entries_of engine.state done.action)) ≡ length payload = ap (λ (b : List Entry). length (batch_bytes b)) done.records.batch_is ∙ sym (ap length done.records.bytes) in
+    record {
+      action = done.action;
+      asks = done.is;
+      accepted = done.records.accepted;
+      full = inr ((λ none. some_entry done.records.entry (sym done.records.batch_is ∙ none)), omega (arith, full, bytes));
+    }
+  where
+    some_entry : (e : Entry) → e ∷ [] ≡ [] → ⊥
+    some_entry e is = cc
 
 -- of the other errors it is want of memory
-pub spent_or_memory : (s : Kept) (command : Command) (fault : Fault) → IsNoOutcome s command fault → (fault ≡ Spent) ⊎ (fault ≡ Memory)
-spent_or_memory s command Failed none = absurd none
-spent_or_memory s command (Damaged damage) none = absurd none
-spent_or_memory s command Spent none = inl refl
-spent_or_memory s command Memory none = inr refl
+pub spent_or_memory : (s : Kept) (asks : Option Action) (fault : Fault) → IsNoOutcome s asks fault → (fault ≡ Spent) ⊎ (fault ≡ Memory)
+spent_or_memory s asks Failed none = absurd none
+spent_or_memory s asks (Damaged damage) none = absurd none
+spent_or_memory s asks Spent none = inl refl
+spent_or_memory s asks Memory none = inr refl
 
 module _ {D : Type 0} (m : Ghosts D) (old : D) (law : (c : Files) (b : List ℕ) → m.left_since old (m.moment old) c b → Leaves (m.tells old) c b)
     (engine : Engine) (owns : Owns engine (account (m.tells old)).files) where
@@ -133,12 +197,14 @@ module _ {D : Type 0} (m : Ghosts D) (old : D) (law : (c : Files) (b : List ℕ)
         well = λ quiet. image_well (account (m.tells old)).files c quiet left.image;
       }))
 
-  -- a refusal leaves all as it was
-  pub refused : IsHonest (m.tells old) → (item : Option Command) (refusal : Refusal) → Step (state_of engine) item (No refusal) (state_of engine) → Executes m (state_of engine) item old old (Ok (engine, No refusal))
-  refused honest item refusal step = record {
-    reply = No refusal;
+  -- a line that asks for nothing leaves all as it was
+  pub unread : IsHonest (m.tells old) → Executes m (state_of engine) None old old (Ok (engine, No Line))
+  unread honest = record {
+    view = seen_by engine;
+    shown = owned_shown engine (account (m.tells old)).files owns;
+    reply = No Line;
     next = state_of engine;
-    step = step;
+    step = (refl, refl);
     moments = nothing_left (state_of engine).durable;
     kept = honest;
     told = refl;
@@ -147,11 +213,13 @@ module _ {D : Type 0} (m : Ghosts D) (old : D) (law : (c : Files) (b : List ℕ)
   }
 
   -- so does a command that changes nothing
-  pub unchanged : IsHonest (m.tells old) → (command : Command) (outcome : Outcome) (state : Kept) (reply : Reply) → outcome ≡ Unchanged state reply → IsOutcome engine.state command outcome
+  pub unchanged : IsHonest (m.tells old) → (command : Command) (outcome : Outcome) (state : Kept) (reply : Reply) → outcome ≡ Unchanged state reply → IsOutcome engine.state (asked (Some command)) outcome
       → Executes m (state_of engine) (Some command) old old (Ok (record { journal = engine.journal; state = state }, reply))
   unchanged honest command outcome state reply is what =
-      let now : IsOutcome engine.state command (Unchanged state reply) = subst (λ o. IsOutcome engine.state command o) is what in
+      let now : IsOutcome engine.state (asked (Some command)) (Unchanged state reply) = subst (λ o. IsOutcome engine.state (asked (Some command)) o) is what in
       record {
+        view = seen_by engine;
+        shown = owned_shown engine (account (m.tells old)).files owns;
         reply = reply;
         next = state_of engine;
         step = now.1;
@@ -166,15 +234,18 @@ module _ {D : Type 0} (m : Ghosts D) (old : D) (law : (c : Files) (b : List ℕ)
       }
 
   -- a batch that is appended
-  module _ (command : Command) (payload : List ℕ) (next : Kept) (records : Records engine.state command payload next) where
-    spelled_now : SpellBatches (owns.batches ++ payload ∷ []) (owns.entries ++ records.entry ∷ [])
-    spelled_now = spelled_push owns.batches owns.entries payload (records.entry ∷ []) owns.spelled (spells_one payload records.entry records.bytes records.fields)
+  module _ (command : Command) (payload : List ℕ) (next : Kept) (action : Action) (records : Records engine.state action payload next) where
+    abbrev own : OwnsJournal engine.journal engine.state.durable (account (m.tells old)).files
+    own = owns.journal
 
-    folded_now : fold fresh (owns.entries ++ records.entry ∷ []) ≡ Some next.durable
-    folded_now = fold_applied fresh engine.state.durable next.durable owns.entries records.entry owns.folded records.applied
+    spelled_now : SpellBatches (own.batches ++ payload ∷ []) (own.entries ++ records.entry ∷ [])
+    spelled_now = spelled_push own.batches own.entries payload (records.entry ∷ []) own.spelled (spells_one payload records.entry records.bytes records.fields)
 
-    grows : GrowsTo engine.state.durable.addresses next.durable.addresses
-    grows = applied_grows engine.state.durable next.durable records.entry (owned_sound engine.journal engine.state.durable (account (m.tells old)).files owns) records.applied
+    folded_now : fold fresh (own.entries ++ records.entry ∷ []) ≡ Some next.durable
+    folded_now = fold_applied fresh engine.state.durable next.durable own.entries records.entry own.folded records.applied
+
+    grows : Grows engine.state.durable.addresses next.durable.addresses
+    grows = grown engine.state.durable.addresses next.durable.addresses engine.state.paged next.paged records.grows
 
     either_left : (c : Files) (b : List ℕ) → LeavesOldOrNew engine.journal payload (m.tells old) c b
         → LeavesMeaning (Either (Keeps (state_of engine).durable) (Keeps (broker_of next).durable)) (m.tells old) c b
@@ -182,26 +253,28 @@ module _ {D : Type 0} (m : Ghosts D) (old : D) (law : (c : Files) (b : List ℕ)
       honest = left.honest;
       nothing = left.told;
       means =
-          let kept = λ (quiet : AllQuiet (account (m.tells old)).files) (e : Folded). left_well engine.journal engine.state.durable (account (m.tells old)).files owns c e quiet left.others in
+          let kept = λ (quiet : AllQuiet (account (m.tells old)).files) (e : Folded). left_well engine.journal engine.state.durable (account (m.tells old)).files own c e quiet left.others in
           ⊎_elim
           (λ says. inl (record {
-            denoted = spelled_denote (as_left c) owns.batches owns.entries engine.state.durable owns.spelled owns.folded says;
-            well = λ quiet. kept quiet engine.state.durable (spelled_fold (as_left c) owns.batches owns.entries engine.state.durable owns.spelled owns.folded says) (inl refl) (λ roomy. roomy);
+            denoted = spelled_denote (as_left c) own.batches own.entries engine.state.durable own.spelled own.folded says;
+            well = λ quiet. kept quiet engine.state.durable (spelled_fold (as_left c) own.batches own.entries engine.state.durable own.spelled own.folded says) (inl refl) (λ roomy. roomy);
           }))
           (λ says. inr (record {
-            denoted = spelled_denote (as_left c) (owns.batches ++ payload ∷ []) (owns.entries ++ records.entry ∷ []) next.durable spelled_now folded_now says;
-            well = λ quiet. kept quiet next.durable (spelled_fold (as_left c) (owns.batches ++ payload ∷ []) (owns.entries ++ records.entry ∷ []) next.durable spelled_now folded_now says) grows (λ roomy. records.roomy);
+            denoted = spelled_denote (as_left c) (own.batches ++ payload ∷ []) (own.entries ++ records.entry ∷ []) next.durable spelled_now folded_now says;
+            well = λ quiet. kept quiet next.durable (spelled_fold (as_left c) (own.batches ++ payload ∷ []) (own.entries ++ records.entry ∷ []) next.durable spelled_now folded_now says) grows (λ roomy. records.roomy);
           }))
-          (left.left owns.batches owns.stands);
+          (left.left own.batches own.stands);
     }
 
     appending : (new : D) → Within m old new (LeavesOldOrNew engine.journal payload) → Decides m (Keeps (state_of engine).durable) (Keeps (broker_of next).durable) old new
     appending new run = quiet_from m old new (LeavesOldOrNew engine.journal payload) (Either (Keeps (state_of engine).durable) (Keeps (broker_of next).durable)) run either_left
 
-    pub append_failed : IsHonest (m.tells old) → (reply : Reply) → Step (state_of engine) (Some command) reply (broker_of next) → (new : D) (result : Result (Engine × Reply) Fault) → IsErr result
+    pub append_failed : IsHonest (m.tells old) → (reply : Reply) → Step (seen_by engine) (state_of engine) (Some command) reply (broker_of next) → (new : D) (result : Result (Engine × Reply) Fault) → IsErr result
         → Within m old new (LeavesOldOrNew engine.journal payload) → Changes (m.tells old) (m.tells new) (ChangesFile (name_of engine.journal) (λ _ _. Unit {0}))
         → Executes m (state_of engine) (Some command) old new result
     append_failed honest reply step new result failed run changes = record {
+      view = seen_by engine;
+      shown = owned_shown engine (account (m.tells old)).files owns;
       reply = reply;
       next = broker_of next;
       step = step;
@@ -212,7 +285,20 @@ module _ {D : Type 0} (m : Ghosts D) (old : D) (law : (c : Files) (b : List ℕ)
       stays = on_not_ok _ result failed;
     }
 
-    pub appended : IsHonest (m.tells old) → (reply : Reply) → Step (state_of engine) (Some command) reply (broker_of next) → (new : D) (journal : Journal) → name_of journal ≡ name_of engine.journal
+    -- what is known of pages in the files that there are then
+    pages_now : (files : FinMap file_cmp FileState) → ((file : FileId) → file ≢ name_of engine.journal → get files file ≡ get (account (m.tells old)).files file) → OwnsPages next files
+    pages_now files others =
+        let before = (account (m.tells old)).files in
+        let same = λ (file : FileId) (other : file ≢ name_of engine.journal). ap bytes_of (others file other) in
+        let sound = owned_sound engine.journal engine.state.durable before own in
+        let sound_now = sound_folded next.durable (own.entries ++ records.entry ∷ []) (have_fields (own.batches ++ payload ∷ []) (own.entries ++ records.entry ∷ []) spelled_now) folded_now in
+        record {
+          paged = pages_grown (as_read before) (as_read files) (name_of engine.journal) own.stands.kind same engine.state.durable.addresses next.durable.addresses engine.state.paged next.paged records.grows
+              sound.addresses.numbered sound_now.addresses.numbered owns.pages.known owns.pages.paged;
+          known = pages_known (as_read before) (as_read files) (name_of engine.journal) own.stands.kind same engine.state.durable.addresses next.durable.addresses grows owns.pages.known;
+        }
+
+    pub appended : IsHonest (m.tells old) → (reply : Reply) → Step (seen_by engine) (state_of engine) (Some command) reply (broker_of next) → (new : D) (journal : Journal) → name_of journal ≡ name_of engine.journal
         → Within m old new (LeavesOldOrNew engine.journal payload) → Changes (m.tells old) (m.tells new) (ChangesFile (name_of engine.journal) (λ _ _. Unit {0}))
         → (IsHonest (m.tells old) → (batches : List (List ℕ)) → Stands engine.journal batches (account (m.tells old)).files → Stands journal (batches ++ payload ∷ []) (account (m.tells new)).files)
         → Executes m (state_of engine) (Some command) old new (Ok (record { journal = journal; state = next }, reply))
@@ -220,9 +306,11 @@ module _ {D : Type 0} (m : Ghosts D) (old : D) (law : (c : Files) (b : List ℕ)
         let change = changes.step honest in
         let files = (account (m.tells old)).files in
         let after = (account (m.tells new)).files in
-        let batches = owns.batches ++ payload ∷ [] in
-        let stood : Stands journal batches after = stands honest owns.batches owns.stands in
+        let batches = own.batches ++ payload ∷ [] in
+        let stood : Stands journal batches after = stands honest own.batches own.stands in
         record {
+          view = seen_by engine;
+          shown = owned_shown engine files owns;
           reply = reply;
           next = broker_of next;
           step = step;
@@ -235,18 +323,21 @@ module _ {D : Type 0} (m : Ghosts D) (old : D) (law : (c : Files) (b : List ℕ)
               kept = changes.kept honest;
               stands = refl;
               owns = record {
-                batches = batches;
-                entries = owns.entries ++ records.entry ∷ [];
-                stands = stood;
-                spelled = spelled_now;
-                folded = folded_now;
-                alone = λ file kind other. let apart = subst (λ f. file ≢ f) same other in change.others file apart ∙ owns.alone file kind apart;
+                journal = record {
+                  batches = batches;
+                  entries = own.entries ++ records.entry ∷ [];
+                  stands = stood;
+                  spelled = spelled_now;
+                  folded = folded_now;
+                  alone = λ file kind other. let apart = subst (λ f. file ≢ f) same other in change.others file apart ∙ own.alone file kind apart;
+                };
+                pages = pages_now after change.others;
               };
             },
           );
           stays = record {
-            quiet = still_quiet engine.journal engine.state.durable files owns journal batches after same stood change.others;
-            well = λ quiet. read_well engine.journal engine.state.durable files owns journal batches after same stood change.others next.durable
-                (spelled_fold (as_read after) batches (owns.entries ++ records.entry ∷ []) next.durable spelled_now folded_now (stands_reads journal batches after stood)) grows (λ roomy. records.roomy);
+            quiet = still_quiet engine.journal engine.state.durable files own journal batches after same stood change.others;
+            well = λ quiet. read_well engine.journal engine.state.durable files own journal batches after same stood change.others next.durable
+                (spelled_fold (as_read after) batches (own.entries ++ records.entry ∷ []) next.durable spelled_now folded_now (stands_reads journal batches after stood)) grows (λ roomy. records.roomy);
           };
         }

@@ -1,9 +1,9 @@
 -- What is true of the parts of a state in memory stays true of them after each command.
-use Rattle.std.proofs.Common.{◌≡◌, refl, sym, ◌∙◌, ap, ap₂, subst, ℕ, ◌+◌, ◌-◌, ◌<◌, ◌≤◌, ◌^◌, min, true, List, [], ◌∷◌, ◌++◌, length, get_or, set, Some, inl, inr, ⊎_elim, arith, slice_get, leb-true, sum_by, None}
-use Rattle.std.proofs.lemmas.Bool.{cases_eq, and_parts}
-use Rattle.std.proofs.lemmas.List.{map-append, get_or-map}
+use Rattle.std.proofs.Common.{leb, map, option_map, ◌≡◌, refl, sym, ◌∙◌, ap, ap₂, subst, ℕ, ◌+◌, ◌-◌, ◌<◌, ◌≤◌, ◌^◌, min, Bool, true, false, List, [], ◌∷◌, ◌++◌, length, get_or, set, Some, inl, inr, ⊎_elim, arith, slice_get, leb-true, sum_by, None}
+use Rattle.std.proofs.lemmas.Bool.{cases_eq, and_parts, both_ways, le-leb}
+use Rattle.std.proofs.lemmas.List.{map-append, get_or-map, get_or_default, length-append}
 use Rattle.std.proofs.lemmas.List.Elements.{All-push, All-weaker}
-use Rattle.std.proofs.lemmas.Option.{slice_get-get_or}
+use Rattle.std.proofs.lemmas.Option.{same_Some, slice_get-get_or, slice_get-map}
 use Rattle.pg_msg.specs.declared.message.Message.{Message}
 use Rattle.pg_msg.specs.declared.message.MessageId.{MessageId}
 use Rattle.pg_msg.specs.Messages.{weight_of}
@@ -14,9 +14,14 @@ use Rattle.pg_fold.specs.declared.rows.AddressRow.{AddressRow}
 use Rattle.pg_fold.specs.declared.rows.JournaledRow.{JournaledRow}
 use Rattle.pg_fold.specs.declared.rows.QueueRow.{QueueRow}
 use Rattle.pg_fold.specs.Fold.{rule_of, changed, are_settings}
-use Rattle.pg_recover.specs.Denotation.{weight_at}
-use Rattle.pg_engine.specs.Kept.{IsDrawn, IsFit, HasRoom, name_of_row}
-use Rattle.pg_engine.specs.Names.{RouteNames, QueueName, IsId}
+use Rattle.pg_recover.specs.Denotation.{address_of, weight_at}
+use Rattle.pg_recover.specs.WellFormed.{AreRoomy}
+use Rattle.pg_model.specs.Broker.{Address, IsDrawn}
+use Rattle.pg_model.specs.Refusals.{WouldPage}
+use Rattle.pg_routes.specs.Names.{RouteNames, with_address, with_queue, without_queue}
+use Rattle.pg_engine.specs.Kept.{Kept, IsFit, IsId, HasRoom, broker_of, view_of, name_of_address, name_of_queue, weights_in}
+use Rattle.pg_engine.proofs.DroppingLemmas.{all_left, lighter}
+use Rattle.pg_engine.proofs.NamingLemmas.{names_address, names_queue, names_left}
 use Rattle.pg_engine.proofs.PartLemmas.{nothing_at, weight_here, weight_elsewhere, weights_with_message}
 use Rattle.pg_fold.proofs.SoundLaws.{sound_kept}
 
@@ -29,7 +34,7 @@ limited : (row : AddressRow) → are_settings row.max row.page row.ahead row.dup
 limited row fits = leb-true row.max 1000000000000 (and_parts _ _ fits).0
 
 -- the address at a place, with its limit
-module _ (d : Durable) (names : RouteNames) (weights : List ℕ) (drawn address : ℕ) (fit : IsFit d names weights drawn) (there : IsId (length d.addresses) address) where
+module _ (d : Durable) (names : RouteNames) (weights : List ℕ) (paged : List Bool) (drawn address : ℕ) (fit : IsFit d names weights paged drawn) (there : IsId (length d.addresses) address) where
   abbrev pub row : AddressRow
   row = get_or d.addresses (address - 1) no_row
 
@@ -50,6 +55,28 @@ module _ (d : Durable) (names : RouteNames) (weights : List ℕ) (drawn address 
   kept_weight weight read =
       read ∙ ap (λ (l : List ℕ). get_or l (address - 1) weight) fit.weighed ∙ get_or-map (λ (r : AddressRow). weight_at r.id d.journaled) d.addresses (address - 1) no_row weight within
       ∙ ap (λ (id : ℕ). weight_at id d.journaled) row_id
+
+  -- whether a message would be paged, by the mark, the limit and the weight that are kept
+  module _ (ids : ℕ) (mark : Bool) (marked : mark ≡ get_or paged (address - 1) mark) (not : mark ≡ false) (other : AddressRow) (weight : ℕ) (read : weight ≡ get_or weights (address - 1) weight) where
+    abbrev kept : Kept
+    kept = record { durable = d; drawn = drawn; ids = ids; paged = paged }
+
+    limit_read : (get_or d.addresses (address - 1) other).max ≡ row.max
+    limit_read = ap (λ (r : AddressRow). r.max) (get_or_default d.addresses (address - 1) other no_row within)
+
+    unmarked : get_or paged (address - 1) false ≡ false
+    unmarked = get_or_default paged (address - 1) false mark (omega (arith, within, fit.counted)) ∙ sym marked ∙ not
+
+    at_row : slice_get (map address_of d.addresses) (address - 1) ≡ Some (address_of row)
+    at_row = slice_get-map address_of d.addresses (address - 1) ∙ ap (option_map address_of) row_there
+
+    pub full_pages : leb (get_or d.addresses (address - 1) other).max weight ≡ true → WouldPage (view_of kept) (broker_of kept) address
+    full_pages full = inr (address_of row, at_row, let less = leb-true _ _ full in omega (arith, less, limit_read, kept_weight weight read))
+
+    pub pages_full : WouldPage (view_of kept) (broker_of kept) address → leb (get_or d.addresses (address - 1) other).max weight ≡ true
+    pages_full (inl marked_so) = absurd (both_ways (get_or paged (address - 1) false) unmarked marked_so)
+    pages_full (inr by_weight) =
+        le-leb _ _ (let less = by_weight.2 in let same = ap (λ (a : Address). a.settings.max) (same_Some (address_of row) by_weight.0 (sym at_row ∙ by_weight.1)) in omega (arith, less, same, limit_read, kept_weight weight read))
 
   -- a message more
   module _ (numbers : List ℕ) (m : Message) (room : HasRoom d address) (light : weight_of m ≤ 102399) (id : m.id ≡ record { epoch = d.epoch; number = drawn + 1 }) where
@@ -84,9 +111,9 @@ module _ (d : Durable) (names : RouteNames) (weights : List ℕ) (drawn address 
     drawn_still r is = ⊎_elim (λ earlier. inl earlier) (λ same. inr (same.0, omega (arith, same.1))) is
 
     pub with_message_fit : (now : Durable) (weight : ℕ) → rule_of d (entry.Add address numbers m) ≡ None → HasFields (entry.Add address numbers m) → now ≡ after → weight ≡ weight_at address d.journaled + weight_of m
-        → IsFit now names (set weights (address - 1) weight) (drawn + 1)
+        → IsFit now names (set weights (address - 1) weight) paged (drawn + 1)
     with_message_fit now weight condition fields is heavier =
-        subst (λ (x : Durable). IsFit x names (set weights (address - 1) weight) (drawn + 1)) (sym is) (record {
+        subst (λ (x : Durable). IsFit x names (set weights (address - 1) weight) paged (drawn + 1)) (sym is) (record {
           sound = sound_kept d after (entry.Add address numbers m) fit.sound fields (record { condition = condition; effect = refl });
           begun = fit.begun;
           roomy = still_room;
@@ -95,41 +122,61 @@ module _ (d : Durable) (names : RouteNames) (weights : List ℕ) (drawn address 
               (subst (λ (x : MessageId). IsDrawn d.epoch (drawn + 1) x) (sym id) (inr (refl, omega arith)));
           named = fit.named;
           weighed = ap₂ (λ (l : List ℕ) (w : ℕ). set l (address - 1) w) fit.weighed heavier ∙ sym (weights_with_message d address (address - 1) numbers m fit.sound (omega (arith, there.0)));
+          counted = fit.counted;
         })
 
 -- an address more
-pub with_address_fit : (d now : Durable) (old names : RouteNames) (weights more_weights : List ℕ) (drawn : ℕ) (name : List ℕ) (max page ahead dup : ℕ) → IsFit d old weights drawn
+pub with_address_fit : (d now : Durable) (old names : RouteNames) (weights more_weights : List ℕ) (paged more_paged : List Bool) (drawn : ℕ) (name : List ℕ) (max page ahead dup : ℕ) → IsFit d old weights paged drawn
     → rule_of d (entry.Address (length d.addresses + 1) name max page ahead dup) ≡ None → HasFields (entry.Address (length d.addresses + 1) name max page ahead dup) → now ≡ changed d (entry.Address (length d.addresses + 1) name max page ahead dup)
-    → names.addresses ≡ old.addresses ++ (name ∷ []) → names.queues ≡ old.queues → more_weights ≡ weights ++ (0 ∷ []) → IsFit now names more_weights drawn
-with_address_fit d now old names weights more_weights drawn name max page ahead dup fit condition fields is addresses queues weighed =
+    → names ≡ with_address (record { id = length d.addresses + 1; name = name }) old → more_weights ≡ weights ++ (0 ∷ []) → more_paged ≡ paged ++ (false ∷ []) → IsFit now names more_weights more_paged drawn
+with_address_fit d now old names weights more_weights paged more_paged drawn name max page ahead dup fit condition fields is named weighed marked =
     let new : AddressRow = record { id = length d.addresses + 1; name = name; max = max; page = page; ahead = ahead; dup = dup; first = 1 } in
     let after = changed d (entry.Address (length d.addresses + 1) name max page ahead dup) in
     let nothing : weight_at (length d.addresses + 1) d.journaled ≡ 0 = ap (λ (held : List Message). sum_by weight_of held) (nothing_at d fit.sound) in
-    subst (λ (x : Durable). IsFit x names more_weights drawn) (sym is) (record {
+    subst (λ (x : Durable). IsFit x names more_weights more_paged drawn) (sym is) (record {
       sound = sound_kept d after (entry.Address (length d.addresses + 1) name max page ahead dup) fit.sound fields (record { condition = condition; effect = refl });
       begun = fit.begun;
       roomy = All-push (λ r. weight_at r.id d.journaled < r.max + 102400) d.addresses new fit.roomy (omega (arith, nothing));
       drawn_all = fit.drawn_all;
-      named = ap₂ (λ (a : List (List ℕ)) (q : List QueueName). record { addresses = a; queues = q })
-          (addresses ∙ ap (λ (l : List (List ℕ)). l ++ (name ∷ [])) (ap (λ (n : RouteNames). n.addresses) fit.named) ∙ sym (map-append (λ (r : AddressRow). r.name) d.addresses (new ∷ [])))
-          (queues ∙ ap (λ (n : RouteNames). n.queues) fit.named);
+      named = named ∙ ap (with_address (name_of_address new)) fit.named ∙ names_address d new fit.sound refl;
       weighed = weighed ∙ ap₂ (λ (l : List ℕ) (w : ℕ). l ++ (w ∷ [])) fit.weighed (sym nothing) ∙ sym (map-append (λ (r : AddressRow). weight_at r.id d.journaled) d.addresses (new ∷ []));
+      counted = omega (arith, ap length marked, length-append paged (false ∷ []), length-append d.addresses (new ∷ []), fit.counted);
     })
 
 -- a queue more
-pub with_queue_fit : (d now : Durable) (old names : RouteNames) (weights : List ℕ) (drawn address : ℕ) (name : List ℕ) → IsFit d old weights drawn
+pub with_queue_fit : (d now : Durable) (old names : RouteNames) (weights : List ℕ) (paged : List Bool) (drawn address : ℕ) (name : List ℕ) → IsFit d old weights paged drawn
     → rule_of d (entry.Queue d.next address name []) ≡ None → HasFields (entry.Queue d.next address name []) → now ≡ changed d (entry.Queue d.next address name [])
-    → names.addresses ≡ old.addresses → names.queues ≡ old.queues ++ (record { id = d.next; address = address; name = name } ∷ []) → IsFit now names weights drawn
-with_queue_fit d now old names weights drawn address name fit condition fields is addresses queues =
+    → names ≡ with_queue (record { id = d.next; address = address; name = name }) old → IsFit now names weights paged drawn
+with_queue_fit d now old names weights paged drawn address name fit condition fields is named =
     let new : QueueRow = record { id = d.next; address = address; name = name; filter = [] } in
     let after = changed d (entry.Queue d.next address name []) in
-    subst (λ (x : Durable). IsFit x names weights drawn) (sym is) (record {
+    subst (λ (x : Durable). IsFit x names weights paged drawn) (sym is) (record {
       sound = sound_kept d after (entry.Queue d.next address name []) fit.sound fields (record { condition = condition; effect = refl });
       begun = fit.begun;
       roomy = fit.roomy;
       drawn_all = fit.drawn_all;
-      named = ap₂ (λ (a : List (List ℕ)) (q : List QueueName). record { addresses = a; queues = q })
-          (addresses ∙ ap (λ (n : RouteNames). n.addresses) fit.named)
-          (queues ∙ ap (λ (l : List QueueName). l ++ (name_of_row new ∷ [])) (ap (λ (n : RouteNames). n.queues) fit.named) ∙ sym (map-append name_of_row d.queues (new ∷ [])));
+      named = named ∙ ap (with_queue (name_of_queue new)) fit.named ∙ names_queue d new fit.sound refl;
       weighed = fit.weighed;
+      counted = fit.counted;
+    })
+
+-- where there was room there is room without a queue
+pub roomy_left : (d : Durable) (queue : ℕ) → AreRoomy d → AreRoomy (changed d (entry.DropQueue queue))
+roomy_left d queue roomy =
+    All-weaker (λ (row : AddressRow). weight_at row.id d.journaled < row.max + 102400) (λ (row : AddressRow). weight_at row.id (changed d (entry.DropQueue queue)).journaled < row.max + 102400)
+    (λ row room. let less = lighter queue row.id d.journaled in omega (arith, room)) d.addresses roomy
+
+-- a queue less
+pub without_queue_fit : (d now : Durable) (old names : RouteNames) (weights fewer : List ℕ) (paged : List Bool) (drawn queue : ℕ) → IsFit d old weights paged drawn
+    → rule_of d (entry.DropQueue queue) ≡ None → HasFields (entry.DropQueue queue) → now ≡ changed d (entry.DropQueue queue) → names ≡ without_queue queue old → fewer ≡ weights_in now → IsFit now names fewer paged drawn
+without_queue_fit d now old names weights fewer paged drawn queue fit condition fields is named weighed =
+    let after = changed d (entry.DropQueue queue) in
+    subst (λ (x : Durable). IsFit x names fewer paged drawn) (sym is) (record {
+      sound = sound_kept d after (entry.DropQueue queue) fit.sound fields (record { condition = condition; effect = refl });
+      begun = fit.begun;
+      roomy = roomy_left d queue fit.roomy;
+      drawn_all = all_left queue (λ m. IsDrawn d.epoch drawn m.id) d.journaled fit.drawn_all;
+      named = named ∙ ap (without_queue queue) fit.named ∙ names_left d queue;
+      weighed = weighed ∙ ap weights_in is;
+      counted = fit.counted;
     })

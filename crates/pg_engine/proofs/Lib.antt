@@ -1,7 +1,9 @@
+pub mod DroppingLemmas
 pub mod EntryLemmas
 pub mod Executing
 pub mod FitLemmas
-pub mod NameLemmas
+pub mod LookupLemmas
+pub mod NamingLemmas
 pub mod OpenedState
 pub mod OpeningLemmas
 pub mod PartLemmas

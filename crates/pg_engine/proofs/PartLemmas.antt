@@ -1,7 +1,7 @@
 -- The durable part that a folded state stands for, after an address, a queue or a message more.
-use Rattle.std.proofs.Common.{◌≡◌, ◌≢◌, refl, sym, ◌∙◌, ap, ap₂, ℕ, zero, suc, ◌+◌, ◌-◌, ◌<◌, ◌≤◌, Bool, true, false, cond, ◌&&◌, ◌||◌, eqb, List, [], ◌∷◌, ◌++◌, length, get_or, set, map, filter, sum_by, All, append-nil, subst, eq-eqb, ne_eqb, inl, inr, arith}
+use Rattle.std.proofs.Common.{◌≡◌, ◌≢◌, refl, sym, ◌∙◌, ap, ap₂, ℕ, zero, suc, ◌+◌, ◌<◌, ◌≤◌, Bool, true, false, cond, ◌&&◌, ◌||◌, eqb, List, [], ◌∷◌, ◌++◌, length, get_or, set, map, filter, sum_by, All, append-nil, eq-eqb, ne_eqb, inl, inr, arith}
 use Rattle.std.specs.List.{AllByRecursion, list_all}
-use Rattle.std.proofs.lemmas.Bool.{cases_Bool, cases_eq, and_parts, eqb-true, eqb-false, or_from, or_left}
+use Rattle.std.proofs.lemmas.Bool.{cases_Bool, cases_eq, and_parts, false_from_ne_true, eqb-true, or_from}
 use Rattle.std.proofs.lemmas.List.{map-append}
 use Rattle.std.proofs.lemmas.List.Elements.{filter-append, recursion_from_All}
 use Rattle.std.proofs.lemmas.List.Sums.{sum_by_push}
@@ -15,10 +15,9 @@ use Rattle.pg_fold.specs.declared.rows.QueueRow.{QueueRow}
 use Rattle.pg_fold.specs.Fold.{changed}
 use Rattle.pg_fold.specs.Rows.{has_address, has_number, has_queue_at, AreNumbered, AreAscending}
 use Rattle.pg_fold.specs.Sound.{IsHeldRow, IsSound}
-use Rattle.pg_recover.specs.Broker.{Address, Queue, holding, given}
+use Rattle.pg_model.specs.Broker.{Address, Queue}
+use Rattle.pg_model.specs.Changes.{given, with_address, with_queue, with_queues}
 use Rattle.pg_recover.specs.Denotation.{held_by, held_at, weight_at, address_of, queue_of, durable_part}
-use Rattle.pg_engine.specs.Kept.{name_of_row}
-use Rattle.pg_engine.specs.Names.{queue_ids_at}
 
 -- a test that no element passes leaves none
 none_left : {X : Type 0} (test : X → Bool) (xs : List X) → AllByRecursion (λ x. test x ≡ false) xs → filter test xs ≡ []
@@ -51,6 +50,10 @@ placed_from base id (row ∷ rows) counts there =
 
 pub placed : (rows : List AddressRow) (id : ℕ) → AreNumbered rows → has_address rows id ≡ true → (1 ≤ id) × (id ≤ length rows)
 placed rows id numbered there = let between = placed_from 0 id rows (counted rows numbered) there in (omega (arith, between.0), omega (arith, between.1))
+
+-- the id behind the last one is new
+pub new_behind : (rows : List AddressRow) (id : ℕ) → AreNumbered rows → id ≡ length rows + 1 → has_address rows id ≡ false
+new_behind rows id numbered is = false_from_ne_true (has_address rows id) (λ there. let between = placed rows id numbered there in omega (arith, between.1, is))
 
 -- a queue that is one of the address is one of those below the next number
 below_next : (next address id : ℕ) (queues : List QueueRow) → AllByRecursion (λ row. row.id < next) queues → has_queue_at queues address id ≡ true → id < next
@@ -92,24 +95,20 @@ nothing_by d sound =
     ap (map (λ row. row.message)) (none_left (λ row. has_number row.holders d.next) d.journaled
     (none_by_next d.addresses d.queues d.next d.journaled (recursion_from_All (λ row. row.id < d.next) d.queues sound.queues.below) (recursion_from_All (IsHeldRow d.addresses d.queues) d.journaled sound.held)))
 
--- a further address has no messages
-pub with_address_part : (d : Durable) (name : List ℕ) (max page ahead dup : ℕ) → IsSound d → durable_part (changed d (entry.Address (length d.addresses + 1) name max page ahead dup))
-    ≡ record { epoch = d.epoch; next = d.next; addresses = map (address_of d.journaled) d.addresses ++ (record { name = name; max = max; page = page; ahead = ahead; dup = dup; held = [] } ∷ []); queues = map (queue_of d.journaled) d.queues }
-with_address_part d name max page ahead dup sound =
+-- a further address
+pub with_address_part : (d : Durable) (name : List ℕ) (max page ahead dup : ℕ) → durable_part (changed d (entry.Address (length d.addresses + 1) name max page ahead dup))
+    ≡ with_address (durable_part d) name (record { max = max; page = page; ahead = ahead; dup = dup })
+with_address_part d name max page ahead dup =
     let row : AddressRow = record { id = length d.addresses + 1; name = name; max = max; page = page; ahead = ahead; dup = dup; first = 1 } in
-    ap (λ (addresses : List Address). record { epoch = d.epoch; next = d.next; addresses = addresses; queues = map (queue_of d.journaled) d.queues }) (
-    map-append (address_of d.journaled) d.addresses (row ∷ [])
-    ∙ ap (λ (held : List Message). map (address_of d.journaled) d.addresses ++ (record { name = name; max = max; page = page; ahead = ahead; dup = dup; held = held } ∷ [])) (nothing_at d sound)
-    )
+    ap (λ (addresses : List Address). record { epoch = d.epoch; next = d.next; addresses = addresses; queues = map (queue_of d.journaled) d.queues }) (map-append address_of d.addresses (row ∷ []))
 
--- and a further queue has none either
-pub with_queue_part : (d : Durable) (address : ℕ) (name : List ℕ) → IsSound d → durable_part (changed d (entry.Queue d.next address name []))
-    ≡ record { epoch = d.epoch; next = d.next + 1; addresses = map (address_of d.journaled) d.addresses; queues = map (queue_of d.journaled) d.queues ++ (record { id = d.next; name = name; address = address - 1; messages = [] } ∷ []) }
+-- and a further queue, which has no messages
+pub with_queue_part : (d : Durable) (address : ℕ) (name : List ℕ) → IsSound d → durable_part (changed d (entry.Queue d.next address name [])) ≡ with_queue (durable_part d) name address
 with_queue_part d address name sound =
     let row : QueueRow = record { id = d.next; address = address; name = name; filter = [] } in
-    ap (λ (queues : List Queue). record { epoch = d.epoch; next = d.next + 1; addresses = map (address_of d.journaled) d.addresses; queues = queues }) (
+    ap (λ (queues : List Queue). record { epoch = d.epoch; next = d.next + 1; addresses = map address_of d.addresses; queues = queues }) (
     map-append (queue_of d.journaled) d.queues (row ∷ [])
-    ∙ ap (λ (messages : List Message). map (queue_of d.journaled) d.queues ++ (record { id = d.next; name = name; address = address - 1; messages = messages } ∷ [])) (nothing_by d sound)
+    ∙ ap (λ (messages : List Message). map (queue_of d.journaled) d.queues ++ (record { id = d.next; name = name; address = address; messages = messages } ∷ [])) (nothing_by d sound)
     )
 
 -- a message more, at the address with this id and for these queues
@@ -153,22 +152,6 @@ module _ (rows : List JournaledRow) (address : ℕ) (holders : List ℕ) (m : Me
   pub weight_elsewhere : (id : ℕ) → address ≢ id → weight_at id more ≡ weight_at id rows
   weight_elsewhere id differ = ap (sum_by weight_of) (held_elsewhere id differ)
 
-  abbrev holds : AddressRow → List Message → Address
-  holds row held = record { name = row.name; max = row.max; page = row.page; ahead = row.ahead; dup = row.dup; held = held }
-
-  addresses_past : (base : ℕ) (addresses : List AddressRow) → CountFrom base addresses → address ≤ base → map (address_of more) addresses ≡ map (address_of rows) addresses
-  addresses_past base [] counts past = refl
-  addresses_past base (row ∷ addresses) counts past =
-      ap₂ (λ (a : Address) (others : List Address). a ∷ others) (ap (holds row) (held_elsewhere row.id (λ same. let first = counts.0 in omega arith))) (addresses_past (base + 1) addresses counts.1 (omega (arith, past)))
-
-  addresses_from : (base place : ℕ) (addresses : List AddressRow) → CountFrom base addresses → address ≡ base + place + 1 → map (address_of more) addresses ≡ holding place m (map (address_of rows) addresses)
-  addresses_from base zero [] counts is = refl
-  addresses_from base (suc place) [] counts is = refl
-  addresses_from base zero (row ∷ addresses) counts is =
-      ap₂ (λ (a : Address) (others : List Address). a ∷ others) (ap (holds row) (held_here row.id (let first = counts.0 in omega arith))) (addresses_past (base + 1) addresses counts.1 (omega (arith, is)))
-  addresses_from base (suc place) (row ∷ addresses) counts is =
-      ap₂ (λ (a : Address) (others : List Address). a ∷ others) (ap (holds row) (held_elsewhere row.id (λ same. let first = counts.0 in omega arith))) (addresses_from (base + 1) place addresses counts.1 (omega (arith, is)))
-
   weights_past : (base : ℕ) (addresses : List AddressRow) → CountFrom base addresses → address ≤ base → map (λ row. weight_at row.id more) addresses ≡ map (λ row. weight_at row.id rows) addresses
   weights_past base [] counts past = refl
   weights_past base (row ∷ addresses) counts past =
@@ -185,27 +168,15 @@ module _ (rows : List JournaledRow) (address : ℕ) (holders : List ℕ) (m : Me
       ap₂ (λ (w : ℕ) (ws : List ℕ). w ∷ ws) (weight_elsewhere row.id (λ same. let first = counts.0 in omega arith)) (weights_from (base + 1) place addresses counts.1 (omega (arith, is)))
 
   abbrev has : QueueRow → List Message → Queue
-  has row messages = record { id = row.id; name = row.name; address = row.address - 1; messages = messages }
+  has row messages = record { id = row.id; name = row.name; address = row.address; messages = messages }
 
-  -- the holders are the queues of the address
-  abbrev pub Told : QueueRow → Type 0
-  Told row = (1 ≤ row.address) × (has_number holders row.id ≡ eqb row.address address)
+  given_one : (row : QueueRow) (b : Bool) → has_number holders row.id ≡ b → queue_of more row ≡ cond b (has row (held_by row.id rows ++ (m ∷ []))) (has row (held_by row.id rows))
+  given_one row true told = ap (has row) (held_by_more row.id true told)
+  given_one row false told = ap (has row) (held_by_more row.id false told ∙ append-nil (held_by row.id rows))
 
-  given_one : (place : ℕ) (row : QueueRow) (b : Bool) → 1 ≤ row.address → address ≡ place + 1 → has_number holders row.id ≡ b → eqb row.address address ≡ b
-      → queue_of more row ≡ cond (eqb (row.address - 1) place) (has row (held_by row.id rows ++ (m ∷ []))) (has row (held_by row.id rows))
-  given_one place row true low is told same =
-      let at = eqb-true row.address address same in
-      ap (has row) (held_by_more row.id true told)
-      ∙ sym (ap (λ c. cond c (has row (held_by row.id rows ++ (m ∷ []))) (has row (held_by row.id rows))) (eq-eqb (row.address - 1) place (omega arith)))
-  given_one place row false low is told same =
-      let differ = eqb-false row.address address same in
-      ap (has row) (held_by_more row.id false told ∙ append-nil (held_by row.id rows))
-      ∙ sym (ap (λ c. cond c (has row (held_by row.id rows ++ (m ∷ []))) (has row (held_by row.id rows))) (ne_eqb (row.address - 1) place (λ e. differ (omega arith))))
-
-  queues_given : (place : ℕ) (queues : List QueueRow) → address ≡ place + 1 → AllByRecursion Told queues → map (queue_of more) queues ≡ given place m (map (queue_of rows) queues)
-  queues_given place [] is told = refl
-  queues_given place (row ∷ queues) is told =
-      ap₂ (λ (q : Queue) (qs : List Queue). q ∷ qs) (given_one place row (eqb row.address address) told.0.0 is told.0.1 refl) (queues_given place queues is told.1)
+  queues_given : (queues : List QueueRow) → map (queue_of more) queues ≡ given holders m (map (queue_of rows) queues)
+  queues_given [] = refl
+  queues_given (row ∷ queues) = ap₂ (λ (q : Queue) (qs : List Queue). q ∷ qs) (given_one row (has_number holders row.id) refl) (queues_given queues)
 
 -- each pair, as a fact of the first and the others
 abbrev pub Ascend : List QueueRow → Type 0
@@ -216,59 +187,10 @@ pub ascend : (rows : List QueueRow) → AreAscending rows → Ascend rows
 ascend [] pairs = tt
 ascend (row ∷ rows) pairs = (λ k d within. pairs 0 (suc k) d (omega arith) (omega (arith, within)), ascend rows (λ i j d less within. pairs (suc i) (suc j) d (omega (arith, less)) (omega (arith, within))))
 
--- the numbers at an address have a queue exactly where it is one of the address
-module _ (address : ℕ) where
-  abbrev numbers : List QueueRow → List ℕ
-  numbers queues = queue_ids_at address (map name_of_row queues)
-
-  lacks : (id : ℕ) (queues : List QueueRow) → AllByRecursion (λ row. id < row.id) queues → has_number (numbers queues) id ≡ false
-  lacks id [] above = refl
-  lacks id (row ∷ queues) above = by (lacks id queues above.1) (eqb row.address address)
-    where
-      by : has_number (numbers queues) id ≡ false → (b : Bool) → has_number (cond b (row.id ∷ numbers queues) (numbers queues)) id ≡ false
-      by others true = or_from _ _ (ne_eqb row.id id (λ same. let less = above.0 in omega arith)) others
-      by others false = others
-
-  later_too : (first : QueueRow) (queues others : List QueueRow) → AllByRecursion (λ row. first.id < row.id) others → AllByRecursion (λ row. has_number (numbers queues) row.id ≡ eqb row.address address) others
-      → AllByRecursion (λ row. has_number (numbers (first ∷ queues)) row.id ≡ eqb row.address address) others
-  later_too first queues [] above tell = tt
-  later_too first queues (row ∷ others) above tell = (by (eqb first.address address), later_too first queues others above.1 tell.1)
-    where
-      by : (b : Bool) → has_number (cond b (first.id ∷ numbers queues) (numbers queues)) row.id ≡ eqb row.address address
-      by true = ap (λ c. c || has_number (numbers queues) row.id) (ne_eqb first.id row.id (λ same. let less = above.0 in omega arith)) ∙ tell.0
-      by false = tell.0
-
-  pub tell : (queues : List QueueRow) → Ascend queues → AllByRecursion (λ row. has_number (numbers queues) row.id ≡ eqb row.address address) queues
-  tell [] ascending = tt
-  tell (row ∷ queues) ascending =
-      let above = recursion_from_All (λ other. row.id < other.id) queues ascending.0 in
-      (by above (eqb row.address address), later_too row queues queues above (tell queues ascending.1))
-    where
-      by : AllByRecursion (λ other. row.id < other.id) queues → (b : Bool) → has_number (cond b (row.id ∷ numbers queues) (numbers queues)) row.id ≡ b
-      by above true = or_left _ _ (eq-eqb row.id row.id refl)
-      by above false = lacks row.id queues above
-
--- each queue has an address
-low_addresses : (addresses : List AddressRow) (queues : List QueueRow) → AreNumbered addresses → AllByRecursion (λ row. has_address addresses row.address ≡ true) queues → AllByRecursion (λ row. 1 ≤ row.address) queues
-low_addresses addresses [] numbered there = tt
-low_addresses addresses (row ∷ queues) numbered there = ((placed addresses row.address numbered there.0).0, low_addresses addresses queues numbered there.1)
-
-pub from_one : (d : Durable) → IsSound d → AllByRecursion (λ row. 1 ≤ row.address) d.queues
-from_one d sound = low_addresses d.addresses d.queues sound.addresses.numbered (recursion_from_All (λ row. has_address d.addresses row.address ≡ true) d.queues sound.queues.placed)
-
-both_told : (address : ℕ) (holders : List ℕ) (queues : List QueueRow) → AllByRecursion (λ row. 1 ≤ row.address) queues → AllByRecursion (λ row. has_number holders row.id ≡ eqb row.address address) queues
-    → AllByRecursion (λ row. (1 ≤ row.address) × (has_number holders row.id ≡ eqb row.address address)) queues
-both_told address holders [] low told = tt
-both_told address holders (row ∷ queues) low told = ((low.0, told.0), both_told address holders queues low.1 told.1)
-
--- a further message is held for its address, and given to the address's queues
-pub with_message_part : (d : Durable) (address place : ℕ) (numbers : List ℕ) (m : Message) → IsSound d → address ≡ place + 1 → numbers ≡ queue_ids_at address (map name_of_row d.queues) → durable_part (changed d (entry.Add address numbers m))
-    ≡ record { epoch = d.epoch; next = d.next; addresses = holding place m (map (address_of d.journaled) d.addresses); queues = given place m (map (queue_of d.journaled) d.queues) }
-with_message_part d address place numbers m sound is same =
-    let told = subst (λ (l : List ℕ). AllByRecursion (λ row. has_number l row.id ≡ eqb row.address address) d.queues) (sym same) (tell address d.queues (ascend d.queues sound.queues.ascending)) in
-    ap₂ (λ (addresses : List Address) (queues : List Queue). record { epoch = d.epoch; next = d.next; addresses = addresses; queues = queues })
-    (addresses_from d.journaled address numbers m 0 place d.addresses (counted d.addresses sound.addresses.numbered) (omega (arith, is)))
-    (queues_given d.journaled address numbers m place d.queues is (both_told address numbers d.queues (from_one d sound) told))
+-- a further message is given to its queues
+pub with_message_part : (d : Durable) (address : ℕ) (numbers : List ℕ) (m : Message) → durable_part (changed d (entry.Add address numbers m)) ≡ with_queues (durable_part d) (given numbers m (durable_part d).queues)
+with_message_part d address numbers m =
+    ap (λ (queues : List Queue). record { epoch = d.epoch; next = d.next; addresses = map address_of d.addresses; queues = queues }) (queues_given d.journaled address numbers m d.queues)
 
 -- the weights after it
 pub weights_with_message : (d : Durable) (address place : ℕ) (numbers : List ℕ) (m : Message) → IsSound d → address ≡ place + 1

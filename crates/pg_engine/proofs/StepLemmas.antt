@@ -1,13 +1,11 @@
 -- What each command does to a state in memory is a step of the broker that it stands for.
-use Rattle.std.proofs.Common.{◌≡◌, ◌≢◌, refl, sym, ◌∙◌, ap, subst, ℕ, ◌+◌, ◌-◌, ◌<◌, ◌≤◌, Bool, leb, List, [], ◌∷◌, length, map, Option, Some, None, MatchOption, if◌then◌else◌, slice_get, option_map, inl, inr, arith}
+use Rattle.std.proofs.Common.{◌≡◌, ◌≢◌, refl, sym, ◌∙◌, ap, subst, ℕ, ◌+◌, ◌<◌, ◌≤◌, true, false, eqb, List, [], ◌∷◌, length, Option, Some, None, MatchOption, option_map, is_some, inl, inr, Result, Ok, Err, IfOk, arith}
 use Rattle.std.specs.Option.{option_map_or}
-use Rattle.std.proofs.lemmas.Bool.{le-leb, lt-leb, cases_lt}
+use Rattle.std.proofs.lemmas.Bool.{eqb-true, eqb-false}
 use Rattle.std.proofs.lemmas.List.{length-map}
-use Rattle.std.proofs.lemmas.Option.{slice_get-map, same_Some}
-use Rattle.pg_disk.specs.declared.fault.Fault.TheVariants.{Spent}
-use Rattle.pg_msg.specs.declared.command.Command.{Command}
-use Rattle.pg_msg.specs.declared.command.Command.TheVariants as command
+use Rattle.std.proofs.lemmas.Option.{none-some, same_Some}
 use Rattle.pg_msg.specs.declared.message.Message.{Message}
+use Rattle.pg_msg.specs.declared.properties.Property.{Property}
 use Rattle.pg_msg.specs.declared.reply.Refusal.{Refusal}
 use Rattle.pg_msg.specs.declared.reply.Refusal.TheVariants as refusal
 use Rattle.pg_msg.specs.declared.reply.Reply.{Reply}
@@ -16,272 +14,278 @@ use Rattle.pg_records.specs.declared.entry.Entry.{Entry}
 use Rattle.pg_records.specs.declared.entry.Entry.TheVariants as entry
 use Rattle.pg_records.specs.Entries.{HasFields, batch_bytes}
 use Rattle.pg_fold.specs.declared.durable.Durable.{Durable}
-use Rattle.pg_fold.specs.declared.rows.AddressRow.{AddressRow}
-use Rattle.pg_fold.specs.Fold.{rule_of, changed}
-use Rattle.pg_fold.specs.Sound.{IsSound}
-use Rattle.pg_recover.specs.Broker.{Address, Queue, Broker, place_of, routed, resident, with_address, with_queue, with_message, plain, queueing, sending, next_id, refusal_of_routed, refusal_at, refusal_of, Sends, Does, Refuses, Step}
-use Rattle.pg_recover.specs.Broker.{Durable as BrokerDurable}
-use Rattle.pg_recover.specs.Denotation.{held_by, weight_at, address_of, durable_part}
+use Rattle.pg_fold.specs.Fold.{changed, rule_of}
+use Rattle.pg_model.specs.Actions.{Action, MakeAddress, MakeQueue, DropQueue, Send, Count}
+use Rattle.pg_model.specs.Broker.{Broker, Queue, Settings, address_named, queue_named}
+use Rattle.pg_model.specs.Broker.{Durable as BrokerDurable}
+use Rattle.pg_model.specs.Causes.{Cause, IsFirst}
+use Rattle.pg_model.specs.Changes.{message_of, next_id, with_durable, with_message, with_queue, with_queues, without_queue}
+use Rattle.pg_model.specs.Refusals.{HasAddress, IsConsumed, IsHeavy, WouldPage, WantsNumber, causes, routed}
+use Rattle.pg_model.specs.Steps.{Does, IsDone, Sends}
+use Rattle.pg_model.proofs.CauseLaws.{one_first}
+use Rattle.pg_recover.specs.Denotation.{address_of, durable_part, held_by}
 use Rattle.pg_recover.specs.WellFormed.{AreRoomy}
+use Rattle.pg_disk.specs.declared.fault.Fault.{Fault}
+use Rattle.pg_engine.specs.declared.state.Outcome.{Outcome}
 use Rattle.pg_engine.specs.declared.state.Outcome.TheVariants.{Unchanged, Changed}
-use Rattle.pg_engine.specs.Kept.{Kept, HasRoom, broker_of, name_of_row, names_in}
-use Rattle.pg_engine.specs.Names.{address_named, queue_named, queue_ids_at}
-use Rattle.pg_engine.specs.Outcomes.{IsOutcome, IsNoOutcome, batch_of, batch_of_message, unless_refused}
-use Rattle.pg_engine.proofs.EntryLemmas.{has_place, has_no_place, has_no_queue, has_a_queue, routed_is}
+use Rattle.pg_engine.specs.Kept.{Kept, broker_of, view_of}
+use Rattle.pg_engine.specs.Outcomes.{GrowsTo, IsAccepted, IsOutcome, WantsQueueId, entries_of, entries_of_message}
+use Rattle.pg_engine.proofs.DroppingLemmas.{dropped_part}
+use Rattle.pg_engine.proofs.LookupLemmas.{queue_row}
 use Rattle.pg_engine.proofs.PartLemmas.{with_address_part, with_queue_part, with_message_part}
+use Rattle.pg_fold.specs.Sound.{IsSound}
+
+-- ---- causes
+-- the first one holds, or it doesn't and the others decide
+here : {A : Type 0} (cause : Cause A) (others : List (Cause A)) → cause.holds → IsFirst (cause ∷ others) (Some cause.answer)
+here cause others holds = inl (holds, refl)
+
+later : {A : Type 0} (cause : Cause A) (others : List (Cause A)) (answer : Option A) → (cause.holds → ⊥) → IsFirst others answer → IsFirst (cause ∷ others) answer
+later cause others answer not first = inr (not, first)
+
+-- something was found, or nothing
+not_some : {X : Type 0} (o : Option X) → o ≡ None → is_some o ≡ true → ⊥
+not_some None is some = cc
+not_some (Some x) is some = none-some x (sym is)
+
+pub is_there : {X : Type 0} (o : Option X) (x : X) → o ≡ Some x → is_some o ≡ true
+is_there None x is = absurd (none-some x is)
+is_there (Some y) x is = refl
+
+-- where an id was found, something was
+pub some_of : {X : Type 0} (f : X → ℕ) (o : Option X) → is_some (option_map f o) ≡ true → is_some o ≡ true
+some_of f None is = cc
+some_of f (Some x) is = refl
+
+pub none_of : {X : Type 0} (f : X → ℕ) (o : Option X) → option_map f o ≡ None → o ≡ None
+none_of f None is = refl
+none_of f (Some x) is = absurd (none-some (f x) (sym is))
 
 not_both : (why : Refusal) → Some why ≡ None → ⊥
 not_both why e = cc
 
--- a command with this refusal is refused, and all is as before
-pub refused : (s : Kept) (what : Command) (why : Refusal) → refusal_of (broker_of s) what ≡ Some why → IsOutcome s what (Unchanged s (answer.No why))
-refused s what why is = (
-  refl,
-  subst (λ (o : Option Refusal). MatchOption o (Does (broker_of s) what (answer.No why) (broker_of s)) (λ x. Refuses (broker_of s) x (answer.No why) (broker_of s))) (sym is) (refl, refl),
-  record { nothing = ap (λ (o : Option Refusal). unless_refused o (batch_of (broker_of s) what)) is; queue_id = λ accepted none. not_both why (sym is ∙ accepted) },
-)
-
--- and one without does what it does
-does : (s t : Broker) (what : Command) (reply : Reply) → refusal_of s what ≡ None → Does s what reply t → Step s (Some what) reply t
-does s t what reply is done = subst (λ (o : Option Refusal). MatchOption o (Does s what reply t) (λ x. Refuses s x reply t)) (sym is) done
-
 module _ (s : Kept) where
-  abbrev d : Durable
+  abbrev pub d : Durable
   d = s.durable
 
-  abbrev b : Broker
+  abbrev pub b : Broker
   b = broker_of s
 
-  -- a broker with another durable part
-  abbrev with_part : ℕ → BrokerDurable → Broker
-  with_part drawn part = record { durable = part; drawn = drawn; ids = s.ids }
+  -- ---- outcomes
+  -- an action that is refused leaves all as it was
+  pub refused : (action : Action) (why : Refusal) → IsFirst (causes (view_of s) b action) (Some why) → IsOutcome s (Some action) (Unchanged s (answer.No why))
+  refused action why first = (
+    refl,
+    record { refusal = Some why; first = first; answers = (refl, refl) },
+    record { nothing = (Some why, first, refl); queue_id = λ meets. not_both why (one_first (causes (view_of s) b action) (Some why) None first meets.0) },
+  )
 
-  -- the command that makes an address
-  module _ (name : List ℕ) (max page ahead dup : ℕ) where
-    abbrev pub making : Command
-    making = command.Address name max page ahead dup
+  -- so does what asks for no action
+  pub unread : IsOutcome s None (Unchanged s (answer.No refusal.Line))
+  unread = (refl, (refl, refl), record { nothing = refl; queue_id = λ no. no })
 
-    abbrev many : Option Refusal
-    many = if leb 1000 (length b.durable.addresses) then Some refusal.Line else None
+  -- so does one that adds nothing
+  pub kept : (action : Action) (reply : Reply) → IsAccepted s action → Does b action reply b → entries_of s action ≡ [] → (WantsQueueId s action → ⊥) → IsOutcome s (Some action) (Unchanged s reply)
+  kept action reply accepted does nothing queue_id = (
+    refl,
+    record { refusal = None; first = accepted; answers = does },
+    record { nothing = (None, accepted, sym nothing); queue_id = λ meets. queue_id meets.1 },
+  )
 
-    pub address_taken : (id : ℕ) → address_named (names_in d) name ≡ Some id → IsOutcome s making (Unchanged s (answer.No refusal.Name))
-    address_taken id is = refused s making refusal.Name (ap (λ (o : Option ℕ). option_map_or (λ place. Some refusal.Name) o many) (has_place d.journaled d.addresses name id is).1)
+  -- and one that adds an entry does what the entry does
+  pub recorded : (action : Action) (reply : Reply) (t : Kept) (batch : List ℕ) (e : Entry) → IsAccepted s action → (WantsQueueId s action → ⊥) → Does b action reply (broker_of t) → entries_of s action ≡ e ∷ []
+      → rule_of d e ≡ None → t.durable ≡ changed d e → HasFields e → batch ≡ batch_bytes (e ∷ []) → AreRoomy t.durable → GrowsTo d.addresses s.paged t.durable.addresses t.paged → IsOutcome s (Some action) (Changed t batch reply)
+  recorded action reply t batch e accepted queue_id does is condition effect fields bytes roomy grows = (
+    record { refusal = None; first = accepted; answers = does },
+    record {
+      entry = e;
+      accepted = accepted;
+      queue_id = queue_id;
+      batch_is = is;
+      applied = record { condition = condition; effect = effect };
+      fields = fields;
+      bytes = bytes;
+      roomy = roomy;
+      grows = grows;
+    },
+  )
 
-    address_many : address_named (names_in d) name ≡ None → refusal_of b making ≡ many
-    address_many new = ap (λ (o : Option ℕ). option_map_or (λ place. Some refusal.Name) o many) (has_no_place d.journaled d.addresses name new)
+  -- the broker after an entry, by what it does to the durable part
+  broker_after : (t : Kept) (e : Entry) (drawn : ℕ) (part : BrokerDurable) → t.durable ≡ changed d e → t.drawn ≡ drawn → t.ids ≡ s.ids → durable_part (changed d e) ≡ part
+      → broker_of t ≡ record { durable = part; running = record { drawn = drawn; consumers = [] }; ids = s.ids }
+  broker_after t e drawn part effect draws ids is = λ i. record {
+    durable = (ap durable_part effect ∙ is) i;
+    running = record { drawn = draws i; consumers = [] };
+    ids = ids i;
+  }
 
-    pub address_full : address_named (names_in d) name ≡ None → 1000 ≤ length d.addresses → IsOutcome s making (Unchanged s (answer.No refusal.Line))
-    address_full new full =
-        refused s making refusal.Line (address_many new ∙ ap (λ (c : Bool). if c then Some refusal.Line else None) (le-leb 1000 (length b.durable.addresses) (omega (arith, full, length-map d.addresses (address_of d.journaled)))))
+  -- ---- the command that makes an address
+  module _ (name : List ℕ) (settings : Settings) where
+    pub address_taken : is_some (address_named b.durable.addresses name) ≡ true → IsOutcome s (Some (MakeAddress name settings)) (Unchanged s (answer.No refusal.Name))
+    address_taken taken = refused (MakeAddress name settings) refusal.Name (inl (taken, refl))
+
+    pub address_many : address_named b.durable.addresses name ≡ None → 1000 ≤ length d.addresses → IsOutcome s (Some (MakeAddress name settings)) (Unchanged s (answer.No refusal.Room))
+    address_many new full = refused (MakeAddress name settings) refusal.Room (inr (not_some _ new, inl (omega (arith, full, length-map d.addresses address_of), refl)))
 
     abbrev pub address_entry : Entry
-    address_entry = entry.Address (length d.addresses + 1) name max page ahead dup
+    address_entry = entry.Address (length d.addresses + 1) name settings.max settings.page settings.ahead settings.dup
 
-    pub address_outcome : (t : Kept) (batch : List ℕ) → IsSound d → address_named (names_in d) name ≡ None → length d.addresses < 1000 → rule_of d address_entry ≡ None → HasFields address_entry
-        → t.durable ≡ changed d address_entry → t.drawn ≡ s.drawn → t.ids ≡ s.ids → batch ≡ batch_bytes (address_entry ∷ []) → AreRoomy t.durable → IsOutcome s making (Changed t batch answer.Done)
-    address_outcome t batch sound new few condition fields now drawn ids bytes roomy =
-        let accepted : refusal_of b making ≡ None =
-        address_many new ∙ ap (λ (c : Bool). if c then Some refusal.Line else None) (lt-leb 1000 (length b.durable.addresses) (omega (arith, few, length-map d.addresses (address_of d.journaled)))) in
-        let same : broker_of t ≡ with_address b (record { name = name; max = max; page = page; ahead = ahead; dup = dup; held = [] }) =
-        ap (λ (x : Durable). record { durable = durable_part x; drawn = t.drawn; ids = t.ids }) now
-        ∙ (ap (λ (n : ℕ). record { durable = durable_part (changed d address_entry); drawn = n; ids = t.ids }) drawn
-        ∙ (ap (λ (n : ℕ). record { durable = durable_part (changed d address_entry); drawn = s.drawn; ids = n }) ids
-        ∙ ap (with_part s.drawn) (with_address_part d name max page ahead dup sound))) in (
-          does b (broker_of t) making answer.Done accepted (refl, same),
-          record {
-            entry = address_entry;
-            accepted = accepted;
-            queue_id = λ no. no;
-            batch_is = ap (λ (n : ℕ). entry.Address (n + 1) name max page ahead dup ∷ []) (length-map d.addresses (address_of d.journaled));
-            applied = record { condition = condition; effect = now };
-            fields = fields;
-            bytes = bytes;
-            roomy = roomy;
-          },
-        )
+    pub address_made : (t : Kept) (batch : List ℕ) → address_named b.durable.addresses name ≡ None → length d.addresses < 1000 → rule_of d address_entry ≡ None → HasFields address_entry → t.durable ≡ changed d address_entry
+        → t.drawn ≡ s.drawn → t.ids ≡ s.ids → batch ≡ batch_bytes (address_entry ∷ []) → AreRoomy t.durable → GrowsTo d.addresses s.paged t.durable.addresses t.paged → IsOutcome s (Some (MakeAddress name settings)) (Changed t batch answer.Done)
+    address_made t batch new few condition fields effect drawn ids bytes roomy grows =
+        recorded (MakeAddress name settings) answer.Done t batch address_entry (inr (not_some _ new, inr ((λ full. omega (arith, few, full, length-map d.addresses address_of)), refl))) (λ no. no)
+        (refl, broker_after t address_entry s.drawn _ effect drawn ids (with_address_part d name settings.max settings.page settings.ahead settings.dup)) refl condition effect fields bytes roomy grows
 
-  -- the command that makes a queue
+  -- ---- the command that makes a queue
   module _ (name address : List ℕ) where
-    abbrev pub queued : Command
-    queued = queueing name address
+    pub queue_taken : is_some (queue_named b.durable.queues name) ≡ true → IsOutcome s (Some (MakeQueue name address)) (Unchanged s (answer.No refusal.Name))
+    queue_taken taken = refused (MakeQueue name address) refusal.Name (inl (taken, refl))
 
-    abbrev at_place : Option ℕ → Option Refusal
-    at_place o = option_map_or (λ place. if leb 1000 (length (routed place b.durable.queues)) then Some refusal.Line else None) o (Some refusal.Address)
+    pub queue_nowhere : queue_named b.durable.queues name ≡ None → address_named b.durable.addresses address ≡ None → IsOutcome s (Some (MakeQueue name address)) (Unchanged s (answer.No refusal.Address))
+    queue_nowhere new none = refused (MakeQueue name address) refusal.Address (inr (not_some _ new, inl (not_some _ none, refl)))
 
-    pub queue_taken : (id : ℕ) → queue_named (names_in d) name ≡ Some id → IsOutcome s queued (Unchanged s (answer.No refusal.Name))
-    queue_taken id is =
-        refused s queued refusal.Name (ap (λ (o : Option Queue). option_map_or (λ q. Some refusal.Name) o (at_place (place_of b.durable.addresses address))) (has_a_queue d.journaled d.queues name id is).2)
+    module _ (new : queue_named b.durable.queues name ≡ None) (id : ℕ) (is : address_named b.durable.addresses address ≡ Some id) where
+      pub queue_full : 1000 ≤ length (routed b id) → IsOutcome s (Some (MakeQueue name address)) (Unchanged s (answer.No refusal.Room))
+      queue_full full = refused (MakeQueue name address) refusal.Room (inr (not_some _ new, inr ((λ none. none (is_there _ id is)), inl ((id, is, full), refl))))
 
-    queue_new : queue_named (names_in d) name ≡ None → refusal_of b queued ≡ at_place (place_of b.durable.addresses address)
-    queue_new new = ap (λ (o : Option Queue). option_map_or (λ q. Some refusal.Name) o (at_place (place_of b.durable.addresses address))) (has_no_queue d.journaled d.queues name new)
+      queue_accepted : length (routed b id) < 1000 → IsAccepted s (MakeQueue name address)
+      queue_accepted room =
+          inr (
+            not_some _ new,
+            inr (
+              (λ none. none (is_there _ id is)),
+              inr ((λ full. let more = subst (λ (n : ℕ). 1000 ≤ length (routed b n)) (same_Some full.0 id (sym full.1 ∙ is)) full.2 in omega (arith, more, room)), refl),
+            ),
+          )
 
-    pub queue_nowhere : queue_named (names_in d) name ≡ None → address_named (names_in d) address ≡ None → IsOutcome s queued (Unchanged s (answer.No refusal.Address))
-    queue_nowhere new none = refused s queued refusal.Address (queue_new new ∙ ap at_place (has_no_place d.journaled d.addresses address none))
-
-    module _ (new : queue_named (names_in d) name ≡ None) (id : ℕ) (is : address_named (names_in d) address ≡ Some id) (sound : IsSound d) where
-      placed : place_of b.durable.addresses address ≡ Some (id - 1)
-      placed = (has_place d.journaled d.addresses address id is).1
-
-      place_and_one : (id - 1) + 1 ≡ id
-      place_and_one = let low = (has_place d.journaled d.addresses address id is).0 in omega arith
-
-      routes : routed (id - 1) b.durable.queues ≡ queue_ids_at id (map name_of_row d.queues)
-      routes = routed_is d id (id - 1) sound (sym place_and_one)
-
-      queue_refusal : refusal_of b queued ≡ (if leb 1000 (length (queue_ids_at id (map name_of_row d.queues))) then Some refusal.Line else None)
-      queue_refusal = queue_new new ∙ (ap at_place placed ∙ ap (λ (l : List ℕ). if leb 1000 (length l) then Some refusal.Line else None) routes)
-
-      pub queue_full : 1000 ≤ length (queue_ids_at id (map name_of_row d.queues)) → IsOutcome s queued (Unchanged s (answer.No refusal.Line))
-      queue_full full = refused s queued refusal.Line (queue_refusal ∙ ap (λ (c : Bool). if c then Some refusal.Line else None) (le-leb 1000 (length (queue_ids_at id (map name_of_row d.queues))) full))
-
-      queue_accepted : length (queue_ids_at id (map name_of_row d.queues)) < 1000 → refusal_of b queued ≡ None
-      queue_accepted room = queue_refusal ∙ ap (λ (c : Bool). if c then Some refusal.Line else None) (lt-leb 1000 (length (queue_ids_at id (map name_of_row d.queues))) room)
-
-      pub queue_spent : length (queue_ids_at id (map name_of_row d.queues)) < 1000 → 4294967295 ≤ d.next → IsNoOutcome s queued Spent
+      pub queue_spent : length (routed b id) < 1000 → 4294967295 ≤ d.next → IsAccepted s (MakeQueue name address) × WantsQueueId s (MakeQueue name address)
       queue_spent room spent = (queue_accepted room, spent)
 
       abbrev pub queue_entry : Entry
       queue_entry = entry.Queue d.next id name []
 
-      pub queue_outcome : (t : Kept) (batch : List ℕ) → d.next < 4294967295 → length (queue_ids_at id (map name_of_row d.queues)) < 1000 → rule_of d queue_entry ≡ None → HasFields queue_entry
-          → t.durable ≡ changed d queue_entry → t.drawn ≡ s.drawn → t.ids ≡ s.ids → batch ≡ batch_bytes (queue_entry ∷ []) → AreRoomy t.durable → IsOutcome s queued (Changed t batch answer.Done)
-      queue_outcome t batch few room condition fields now drawn ids bytes roomy =
-          let same : broker_of t ≡ with_queue b name (id - 1) =
-          ap (λ (x : Durable). record { durable = durable_part x; drawn = t.drawn; ids = t.ids }) now
-          ∙ (ap (λ (n : ℕ). record { durable = durable_part (changed d queue_entry); drawn = n; ids = t.ids }) drawn
-          ∙ (ap (λ (n : ℕ). record { durable = durable_part (changed d queue_entry); drawn = s.drawn; ids = n }) ids
-          ∙ ap (with_part s.drawn) (with_queue_part d id name sound))) in (
-            does b (broker_of t) queued answer.Done (queue_accepted room)
-                (subst (λ (o : Option ℕ). MatchOption o ⊥ (λ place. (answer.Done ≡ answer.Done) × (broker_of t ≡ with_queue b name place))) (sym placed) (refl, same)),
-            record {
-              entry = queue_entry;
-              accepted = queue_accepted room;
-              queue_id = λ no. omega (arith, few, no);
-              batch_is = ap (λ (o : Option ℕ). option_map_or (λ place. entry.Queue d.next (place + 1) name [] ∷ []) o []) placed ∙ ap (λ (n : ℕ). entry.Queue d.next n name [] ∷ []) place_and_one;
-              applied = record { condition = condition; effect = now };
-              fields = fields;
-              bytes = bytes;
-              roomy = roomy;
-            },
-          )
+      pub queue_made : (t : Kept) (batch : List ℕ) → IsSound d → d.next < 4294967295 → length (routed b id) < 1000 → rule_of d queue_entry ≡ None → HasFields queue_entry → t.durable ≡ changed d queue_entry
+          → t.drawn ≡ s.drawn → t.ids ≡ s.ids → batch ≡ batch_bytes (queue_entry ∷ []) → AreRoomy t.durable → GrowsTo d.addresses s.paged t.durable.addresses t.paged → IsOutcome s (Some (MakeQueue name address)) (Changed t batch answer.Done)
+      queue_made t batch sound left room condition fields effect drawn ids bytes roomy grows =
+          recorded (MakeQueue name address) answer.Done t batch queue_entry (queue_accepted room) (λ spent. omega (arith, left, spent))
+          (does_at is (refl, broker_after t queue_entry s.drawn _ effect drawn ids (with_queue_part d id name sound)))
+          (ap (λ (o : Option ℕ). option_map_or (λ n. entry.Queue d.next n name [] ∷ []) o []) is) condition effect fields bytes roomy grows
+        where
+          does_at : address_named b.durable.addresses address ≡ Some id → IsDone answer.Done (broker_of t) (with_durable b (with_queue b.durable name id)) → Does b (MakeQueue name address) answer.Done (broker_of t)
+          does_at found done = subst (λ (o : Option ℕ). MatchOption o ⊥ (λ n. IsDone answer.Done (broker_of t) (with_durable b (with_queue b.durable name n)))) (sym found) done
 
-  -- the command that sends a message
-  module _ (address body : List ℕ) where
-    abbrev pub sends : Command
-    sends = sending address body
+  -- ---- the command that drops a queue
+  module _ (name : List ℕ) where
+    pub drop_nowhere : queue_named b.durable.queues name ≡ None → IsOutcome s (Some (DropQueue name)) (Unchanged s (answer.No refusal.Queue))
+    drop_nowhere none = refused (DropQueue name) refusal.Queue (inl (not_some _ none, refl))
+
+    pub drop_made : (q : Queue) (t : Kept) (batch : List ℕ) → queue_named b.durable.queues name ≡ Some q → rule_of d (entry.DropQueue q.id) ≡ None → HasFields (entry.DropQueue q.id) → t.durable ≡ changed d (entry.DropQueue q.id)
+        → t.drawn ≡ s.drawn → t.ids ≡ s.ids → t.paged ≡ s.paged → batch ≡ batch_bytes (entry.DropQueue q.id ∷ []) → AreRoomy t.durable → IsOutcome s (Some (DropQueue name)) (Changed t batch answer.Done)
+    drop_made q t batch is condition fields effect drawn ids paged bytes roomy =
+        recorded (DropQueue name) answer.Done t batch (entry.DropQueue q.id) (inr ((λ none. none (is_there _ q is)), inr ((λ consumed. no_consumer q consumed), refl))) (λ no. no)
+        (subst (λ (o : Option Queue). MatchOption o ⊥ (λ x. IsDone answer.Done (broker_of t) (with_durable b (with_queues b.durable (without_queue x.id b.durable.queues))))) (sym is)
+        (refl, broker_after t (entry.DropQueue q.id) s.drawn _ effect drawn ids (dropped_part q.id d)))
+        (ap (λ (o : Option Queue). option_map_or (λ x. entry.DropQueue x.id ∷ []) o []) is) condition effect fields bytes roomy
+        (inl (ap (λ (x : Durable). x.addresses) effect, paged))
+      where
+        no_consumer : (x : Queue) → IsConsumed b name → ⊥
+        no_consumer x consumed = let some = consumed.2 in cc
+
+    -- the same by the id
+    pub drop_made_by : (id : ℕ) (q : Queue) (t : Kept) (batch : List ℕ) → queue_named b.durable.queues name ≡ Some q → id ≡ q.id → rule_of d (entry.DropQueue id) ≡ None → HasFields (entry.DropQueue id) → t.durable ≡ changed d (entry.DropQueue id)
+        → t.drawn ≡ s.drawn → t.ids ≡ s.ids → t.paged ≡ s.paged → batch ≡ batch_bytes (entry.DropQueue id ∷ []) → AreRoomy t.durable → IsOutcome s (Some (DropQueue name)) (Changed t batch answer.Done)
+    drop_made_by id q t batch is same condition fields effect drawn ids paged bytes roomy =
+        drop_made q t batch is (subst (λ (n : ℕ). rule_of d (entry.DropQueue n) ≡ None) same condition) (subst (λ (n : ℕ). HasFields (entry.DropQueue n)) same fields)
+        (effect ∙ ap (λ (n : ℕ). changed d (entry.DropQueue n)) same) drawn ids paged (bytes ∙ ap (λ (n : ℕ). batch_bytes (entry.DropQueue n ∷ [])) same) roomy
+
+  -- ---- the command that sends a message
+  module _ (address : List ℕ) (properties : List Property) (body : List ℕ) where
+    abbrev pub sending : Action
+    sending = Send address properties body
 
     abbrev pub sent : Message
-    sent = plain (record { epoch = d.epoch; number = s.drawn + 1 }) body
+    sent = message_of (next_id b) properties body
 
-    abbrev send_at : Option ℕ → Option Refusal
-    send_at o = option_map_or (λ place. refusal_at b place (slice_get b.durable.addresses place)) o (Some refusal.Address)
+    pub send_nowhere : address_named b.durable.addresses address ≡ None → IsOutcome s (Some sending) (Unchanged s (answer.No refusal.Address))
+    send_nowhere none = refused sending refusal.Address (inl (not_some _ none, refl))
 
-    pub send_nowhere : address_named (names_in d) address ≡ None → IsOutcome s sends (Unchanged s (answer.No refusal.Address))
-    send_nowhere none = refused s sends refusal.Address (ap send_at (has_no_place d.journaled d.addresses address none))
+    module _ (id : ℕ) (is : address_named b.durable.addresses address ≡ Some id) where
+      there : (HasAddress b address → ⊥) → ⊥
+      there none = none (is_there _ id is)
 
-    module _ (id : ℕ) (is : address_named (names_in d) address ≡ Some id) (sound : IsSound d) (row : AddressRow) (at : slice_get d.addresses (id - 1) ≡ Some row) (number : row.id ≡ id) where
-      sent_to : place_of b.durable.addresses address ≡ Some (id - 1)
-      sent_to = (has_place d.journaled d.addresses address id is).1
+      pub send_heavy : IsHeavy b properties body → IsOutcome s (Some sending) (Unchanged s (answer.No refusal.Size))
+      send_heavy heavy = refused sending refusal.Size (inr (there, inl (heavy, refl)))
 
-      place_then_one : (id - 1) + 1 ≡ id
-      place_then_one = let low = (has_place d.journaled d.addresses address id is).0 in omega arith
+      module _ (light : IsHeavy b properties body → ⊥) where
+        pub send_numberless : routed b id ≢ [] → s.ids ≤ s.drawn → IsOutcome s (Some sending) (Unchanged s (answer.No refusal.Ids))
+        send_numberless some spent = refused sending refusal.Ids (inr (there, inr (light, inl ((id, is, some, spent), refl))))
 
-      goes : routed (id - 1) b.durable.queues ≡ queue_ids_at id (map name_of_row d.queues)
-      goes = routed_is d id (id - 1) sound (sym place_then_one)
+        -- no cause that speaks of queues holds where there are none
+        none_routed : [] ≡ routed b id → (n : ℕ) → address_named b.durable.addresses address ≡ Some n → routed b n ≢ [] → ⊥
+        none_routed none n found some = some (sym (none ∙ ap (routed b) (same_Some id n (sym is ∙ found))))
 
-      send_refusal : (numbers : List ℕ) → numbers ≡ queue_ids_at id (map name_of_row d.queues) → refusal_of b sends ≡ refusal_of_routed b (address_of d.journaled row) numbers
-      send_refusal numbers same =
-          ap send_at sent_to
-          ∙ (ap (λ (o : Option Address). refusal_at b (id - 1) o) (slice_get-map (address_of d.journaled) d.addresses (id - 1) ∙ ap (option_map (address_of d.journaled)) at)
-          ∙ ap (λ (l : List ℕ). refusal_of_routed b (address_of d.journaled row) l) (goes ∙ sym same))
+        pub send_unrouted : [] ≡ routed b id → IsOutcome s (Some sending) (Unchanged s answer.Unrouted)
+        send_unrouted none =
+            kept sending answer.Unrouted
+            (inr (there, inr (light, inr ((λ wants. none_routed none wants.0 wants.1 wants.2), inr ((λ wants. none_routed none wants.0 wants.1 wants.2), refl)))))
+            (subst (λ (o : Option ℕ). MatchOption o ⊥ (λ n. Sends b (routed b n) properties body answer.Unrouted b)) (sym is)
+            (subst (λ (l : List ℕ). Sends b l properties body answer.Unrouted b) none (refl, refl)))
+            (ap (λ (o : Option ℕ). option_map_or (λ n. entries_of_message n (routed b n) sent) o []) is ∙ ap (λ (l : List ℕ). entries_of_message id l sent) (sym none)) (λ no. no)
 
-      sends_to : (numbers : List ℕ) (reply : Reply) (t : Broker) → numbers ≡ queue_ids_at id (map name_of_row d.queues) → Sends b (id - 1) body numbers reply t → Does b sends reply t
-      sends_to numbers reply t same done =
-          subst (λ (o : Option ℕ). MatchOption o ⊥ (λ place. Sends b place body (routed place b.durable.queues) reply t)) (sym sent_to)
-          (subst (λ (l : List ℕ). Sends b (id - 1) body l reply t) (same ∙ sym goes) done)
+        module _ (left : s.drawn < s.ids) where
+          has_number_left : WantsNumber b address → ⊥
+          has_number_left wants = let spent = wants.3 in omega (arith, left, spent)
 
-      pub send_unrouted : [] ≡ queue_ids_at id (map name_of_row d.queues) → IsOutcome s sends (Unchanged s answer.Unrouted)
-      send_unrouted none = (
-        refl,
-        does b b sends answer.Unrouted (send_refusal [] none) (sends_to [] answer.Unrouted b none (refl, refl)),
-        record {
-          nothing = ap (λ (o : Option Refusal). unless_refused o (batch_of b sends)) (send_refusal [] none)
-              ∙ (ap (λ (o : Option ℕ). option_map_or (λ place. batch_of_message b place body (routed place b.durable.queues)) o []) sent_to
-              ∙ ap (λ (l : List ℕ). batch_of_message b (id - 1) body l) (goes ∙ sym none));
-          queue_id = λ accepted no. no;
-        },
-      )
+          pub send_paged : routed b id ≢ [] → WouldPage (view_of s) b id → IsOutcome s (Some sending) (Unchanged s (answer.No refusal.Line))
+          send_paged some paged = refused sending refusal.Line (inr (there, inr (light, inr (has_number_left, inl ((id, is, some, paged), refl)))))
 
-      pub send_spent : (numbers : List ℕ) → numbers ≡ queue_ids_at id (map name_of_row d.queues) → numbers ≢ [] → s.ids ≤ s.drawn → IsOutcome s sends (Unchanged s (answer.No refusal.Line))
-      send_spent [] same some spent = absurd (some refl)
-      send_spent (n ∷ ns) same some spent =
-          refused s sends refusal.Line (send_refusal (n ∷ ns) same
-          ∙ ap (λ (c : Bool). if c then Some refusal.Line else (if leb row.max (resident (address_of d.journaled row)) then Some refusal.Line else None)) (le-leb s.ids s.drawn spent))
+          pub send_made : (numbers : List ℕ) (m : Message) (t : Kept) (batch : List ℕ) → m ≡ sent → numbers ≡ routed b id → numbers ≢ [] → (WouldPage (view_of s) b id → ⊥) → rule_of d (entry.Add id numbers m) ≡ None → HasFields (entry.Add id numbers m)
+              → t.durable ≡ changed d (entry.Add id numbers m) → t.drawn ≡ s.drawn + 1 → t.ids ≡ s.ids → t.paged ≡ s.paged → batch ≡ batch_bytes (entry.Add id numbers m ∷ []) → AreRoomy t.durable
+              → IsOutcome s (Some sending) (Changed t batch (answer.Sent (next_id b)))
+          send_made [] m t batch made same some room condition fields effect drawn ids paged bytes roomy = absurd (some refl)
+          send_made (n ∷ ns) m t batch made same some room condition fields effect drawn ids paged bytes roomy =
+              recorded sending (answer.Sent (next_id b)) t batch (entry.Add id (n ∷ ns) m)
+              (inr (there, inr (light, inr (has_number_left, inr ((λ wants. room (subst (WouldPage (view_of s) b) (sym (same_Some id wants.0 (sym is ∙ wants.1))) wants.3)), refl))))) (λ no. no)
+              (subst (λ (o : Option ℕ). MatchOption o ⊥ (λ x. Sends b (routed b x) properties body (answer.Sent (next_id b)) (broker_of t))) (sym is)
+              (subst (λ (l : List ℕ). Sends b l properties body (answer.Sent (next_id b)) (broker_of t)) same
+              (refl, broker_after t (entry.Add id (n ∷ ns) m) (s.drawn + 1) _ effect drawn ids (with_message_part d id (n ∷ ns) m) ∙ ap (with_message b (n ∷ ns)) made)))
+              (ap (λ (o : Option ℕ). option_map_or (λ x. entries_of_message x (routed b x) sent) o []) is
+              ∙ ap (λ (l : List ℕ). entries_of_message id l sent) (sym same) ∙ ap (λ (x : Message). entry.Add id (n ∷ ns) x ∷ []) (sym made))
+              condition effect fields bytes roomy (inl (ap (λ (x : Durable). x.addresses) effect, paged))
 
-      -- what is held for the address is what the state has at its id
-      resident_is : resident (address_of d.journaled row) ≡ weight_at id d.journaled
-      resident_is = ap (λ (n : ℕ). weight_at n d.journaled) number
-
-      by_room : (n : ℕ) (ns : List ℕ) → (n ∷ ns) ≡ queue_ids_at id (map name_of_row d.queues) → s.drawn < s.ids → refusal_of b sends ≡ (if leb row.max (weight_at id d.journaled) then Some refusal.Line else None)
-      by_room n ns same left =
-          send_refusal (n ∷ ns) same
-          ∙ (ap (λ (c : Bool). if c then Some refusal.Line else (if leb row.max (resident (address_of d.journaled row)) then Some refusal.Line else None)) (lt-leb s.ids s.drawn left)
-          ∙ ap (λ (w : ℕ). if leb row.max w then Some refusal.Line else None) resident_is)
-
-      pub send_full : (numbers : List ℕ) → numbers ≡ queue_ids_at id (map name_of_row d.queues) → numbers ≢ [] → s.drawn < s.ids → (HasRoom d id → ⊥) → IsOutcome s sends (Unchanged s (answer.No refusal.Line))
-      send_full [] same some left full = absurd (some refl)
-      send_full (n ∷ ns) same some left full =
-          refused s sends refusal.Line (by_room n ns same left ∙ ap (λ (c : Bool). if c then Some refusal.Line else None) (le-leb row.max (weight_at id d.journaled) (elim (cases_lt (weight_at id d.journaled) row.max) [
-            | inl less ↦ absurd (full (λ other there. subst (λ (r : AddressRow). weight_at id d.journaled < r.max) (same_Some row other (sym at ∙ there)) less))
-            | inr enough ↦ enough
-          ])))
-
-      abbrev add_entry : List ℕ → Entry
-      add_entry numbers = entry.Add id numbers sent
-
-      sent_outcome : (n : ℕ) (ns : List ℕ) (t : Kept) (batch : List ℕ) → (n ∷ ns) ≡ queue_ids_at id (map name_of_row d.queues) → s.drawn < s.ids → HasRoom d id → rule_of d (add_entry (n ∷ ns)) ≡ None → HasFields (add_entry (n ∷ ns))
-          → t.durable ≡ changed d (add_entry (n ∷ ns)) → t.drawn ≡ s.drawn + 1 → t.ids ≡ s.ids → batch ≡ batch_bytes (add_entry (n ∷ ns) ∷ []) → AreRoomy t.durable → IsOutcome s sends (Changed t batch (answer.Sent (next_id b)))
-      sent_outcome n ns t batch same left room condition fields now drawn ids bytes roomy =
-          let accepted : refusal_of b sends ≡ None = by_room n ns same left ∙ ap (λ (c : Bool). if c then Some refusal.Line else None) (lt-leb row.max (weight_at id d.journaled) (room row at)) in
-          let after : broker_of t ≡ with_message b (id - 1) sent =
-          ap (λ (x : Durable). record { durable = durable_part x; drawn = t.drawn; ids = t.ids }) now
-          ∙ (ap (λ (k : ℕ). record { durable = durable_part (changed d (add_entry (n ∷ ns))); drawn = k; ids = t.ids }) drawn
-          ∙ (ap (λ (k : ℕ). record { durable = durable_part (changed d (add_entry (n ∷ ns))); drawn = s.drawn + 1; ids = k }) ids
-          ∙ ap (with_part (s.drawn + 1)) (with_message_part d id (id - 1) (n ∷ ns) sent sound (sym place_then_one) same))) in (
-            does b (broker_of t) sends (answer.Sent (next_id b)) accepted (sends_to (n ∷ ns) (answer.Sent (next_id b)) (broker_of t) same (refl, after)),
-            record {
-              entry = add_entry (n ∷ ns);
-              accepted = accepted;
-              queue_id = λ no. no;
-              batch_is = ap (λ (o : Option ℕ). option_map_or (λ place. batch_of_message b place body (routed place b.durable.queues)) o []) sent_to
-                  ∙ (ap (λ (l : List ℕ). batch_of_message b (id - 1) body l) (goes ∙ sym same) ∙ ap (λ (k : ℕ). entry.Add k (n ∷ ns) sent ∷ []) place_then_one);
-              applied = record { condition = condition; effect = now };
-              fields = fields;
-              bytes = bytes;
-              roomy = roomy;
-            },
-          )
-
-      pub send_outcome : (numbers : List ℕ) (m : Message) (t : Kept) (batch : List ℕ) → m ≡ sent → numbers ≡ queue_ids_at id (map name_of_row d.queues) → numbers ≢ [] → s.drawn < s.ids → HasRoom d id
-          → rule_of d (entry.Add id numbers m) ≡ None → HasFields (entry.Add id numbers m) → t.durable ≡ changed d (entry.Add id numbers m) → t.drawn ≡ s.drawn + 1 → t.ids ≡ s.ids → batch ≡ batch_bytes (entry.Add id numbers m ∷ []) → AreRoomy t.durable
-          → IsOutcome s sends (Changed t batch (answer.Sent (next_id b)))
-      send_outcome [] m t batch made same some left room condition fields now drawn ids bytes roomy = absurd (some refl)
-      send_outcome (n ∷ ns) m t batch made same some left room condition fields now drawn ids bytes roomy =
-          sent_outcome n ns t batch same left room (subst (λ (x : Message). rule_of d (entry.Add id (n ∷ ns) x) ≡ None) made condition) (subst (λ (x : Message). HasFields (entry.Add id (n ∷ ns) x)) made fields)
-          (now ∙ ap (λ (x : Message). changed d (entry.Add id (n ∷ ns) x)) made) drawn ids (bytes ∙ ap (λ (x : Message). batch_bytes (entry.Add id (n ∷ ns) x ∷ [])) made) roomy
-
-  -- the command that counts
+  -- ---- the command that counts
   module _ (queue : List ℕ) where
-    pub count_nowhere : queue_named (names_in d) queue ≡ None → IsOutcome s (command.Count queue) (Unchanged s (answer.No refusal.Queue))
-    count_nowhere none = refused s (command.Count queue) refusal.Queue (ap (λ (o : Option Queue). option_map_or (λ q. None) o (Some refusal.Queue)) (has_no_queue d.journaled d.queues queue none))
+    pub count_nowhere : queue_named b.durable.queues queue ≡ None → IsOutcome s (Some (Count queue)) (Unchanged s (answer.No refusal.Queue))
+    count_nowhere none = refused (Count queue) refusal.Queue (inl (not_some _ none, refl))
 
-    pub count_outcome : (id : ℕ) → queue_named (names_in d) queue ≡ Some id → IsOutcome s (command.Count queue) (Unchanged s (answer.Count (length (held_by id d.journaled))))
-    count_outcome id is =
-        let found = has_a_queue d.journaled d.queues queue id is in
-        let reply = answer.Count (length (held_by id d.journaled)) in (
-          refl,
-          does b b (command.Count queue) reply (ap (λ (o : Option Queue). option_map_or (λ q. None) o (Some refusal.Queue)) found.2)
-              (subst (λ (o : Option Queue). MatchOption o ⊥ (λ q. (reply ≡ answer.Count (length q.messages)) × (b ≡ b))) (sym found.2)
-              (ap (λ (n : ℕ). answer.Count (length (held_by n d.journaled))) (sym found.1), refl)),
-          record { nothing = ap (λ (o : Option Refusal). unless_refused o []) (ap (λ (o : Option Queue). option_map_or (λ q. None) o (Some refusal.Queue)) found.2); queue_id = λ accepted no. no },
-        )
+    pub count_made : (id : ℕ) → option_map (λ (q : Queue). q.id) (queue_named b.durable.queues queue) ≡ Some id → IsOutcome s (Some (Count queue)) (Unchanged s (answer.Count (length (held_by id d.journaled))))
+    count_made id is =
+        let row = queue_row queue d.journaled d.queues id is in
+        let reply = answer.Count (length (held_by id d.journaled)) in
+        kept (Count queue) reply (inr ((λ none. none (is_there _ _ row.2)), refl))
+        (subst (λ (o : Option Queue). MatchOption o ⊥ (λ q. (reply ≡ answer.Count (length q.messages)) × (b ≡ b))) (sym row.2)
+        (ap (λ (n : ℕ). answer.Count (length (held_by n d.journaled))) (sym row.1), refl))
+        refl (λ no. no)
+
+-- what holds by any name of an address holds by the one that it was found by
+pub made_at : (s : Kept) (name : List ℕ) (id : ℕ) (result : Result Outcome Fault)
+    → IfOk result (λ outcome. (at : List ℕ) → address_named (broker_of s).durable.addresses at ≡ Some id → IsOutcome s (Some (MakeQueue name at)) outcome)
+    → (address : List ℕ) → address_named (broker_of s).durable.addresses address ≡ Some id → IfOk result (λ outcome. IsOutcome s (Some (MakeQueue name address)) outcome)
+made_at s name id (Ok outcome) made address is = made address is
+made_at s name id (Err fault) made address is = tt
+
+pub sent_at : (s : Kept) (m : Message) (id : ℕ) (result : Result Outcome Fault)
+    → IfOk result (λ outcome. (name : List ℕ) (properties : List Property) (body : List ℕ) → address_named (broker_of s).durable.addresses name ≡ Some id → m ≡ message_of (next_id (broker_of s)) properties body
+    → (WouldPage (view_of s) (broker_of s) id → ⊥) → IsOutcome s (Some (Send name properties body)) outcome)
+    → (address : List ℕ) (properties : List Property) (body : List ℕ) → address_named (broker_of s).durable.addresses address ≡ Some id → m ≡ message_of (next_id (broker_of s)) properties body → (WouldPage (view_of s) (broker_of s) id → ⊥)
+    → IfOk result (λ outcome. IsOutcome s (Some (Send address properties body)) outcome)
+sent_at s m id (Ok outcome) made address properties body is same not = made address properties body is same not
+sent_at s m id (Err fault) made address properties body is same not = tt
+
+-- a list without elements, and one with some
+pub none_in : (numbers : List ℕ) → eqb (length numbers) 0 ≡ true → numbers ≡ []
+none_in [] is = refl
+none_in (n ∷ numbers) is = absurd (omega (arith, eqb-true (length (n ∷ numbers)) 0 is))
+
+pub some_in : (numbers : List ℕ) → eqb (length numbers) 0 ≡ false → numbers ≢ []
+some_in numbers is none = eqb-false (length numbers) 0 is (ap length none)

@@ -1,11 +1,11 @@
 -- The states in which a broker is opened over files.
-use Rattle.std.specs.Prelude.{◌≡◌, ◌⊎◌, ℕ, List, Option}
-use Rattle.pg_disk.specs.Account.{Account, account, IsHonest, AllQuiet}
+use Rattle.std.specs.Prelude.{◌≡◌, ℕ, List, Option, length}
+use Rattle.pg_disk.specs.Account.{Account, account, AllQuiet}
 use Rattle.pg_disk.specs.Files.{Files}
 use Rattle.pg_disk.specs.Meanings.{Either, LeavesMeaning}
 use Rattle.pg_disk.specs.Views.{as_read, as_left}
 use Rattle.pg_recover.specs.declared.recovering.Parts.{Parts}
-use Rattle.pg_recover.specs.Broker.{Broker, Durable, next_epoch, opened_from}
+use Rattle.pg_model.specs.Broker.{Broker, Durable, next_epoch, opened_from}
 use Rattle.pg_recover.specs.Denotation.{Denotes}
 use Rattle.pg_recover.specs.Recovered.{IsBegun}
 use Rattle.pg_recover.specs.WellFormed.{AreRoomy, WellFormed}
@@ -36,12 +36,13 @@ pub record DenotesAs (change : Durable → Durable) (tells : Option Account) (im
 abbrev pub LeavesEpoch : Option Account → Files → List ℕ → Type 0
 LeavesEpoch = LeavesMeaning (Either (DenotesAs (λ d. d)) (DenotesAs next_epoch))
 
--- what an engine is made of: a sound state in a new epoch, whose messages have room
+-- what an engine is made of: a sound state in a new epoch, whose messages have room, and a mark for each address
 pub record AreParts (parts : Parts) : Type 0 where
   pub begun : IsBegun parts.durable
   pub roomy : AreRoomy parts.durable
+  pub counted : length parts.paged.items ≡ length parts.durable.addresses
 
 -- the engine of these parts, which has drawn no id
 abbrev pub engine_of : ℕ → Parts → Engine
 engine_of ids parts =
-    record { journal = parts.journal; state = record { durable = parts.durable; drawn = 0; ids = ids } }
+    record { journal = parts.journal; state = record { durable = parts.durable; drawn = 0; ids = ids; paged = parts.paged.items } }

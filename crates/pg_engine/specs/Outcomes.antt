@@ -1,127 +1,134 @@
 -- What a command does to what is kept in memory, and the batch that the journal gets for it.
-use Rattle.std.specs.Prelude.{◌≡◌, ◌≤◌, ◌+◌, ℕ, List, [], ◌∷◌, length, Option, Some, None}
+use Rattle.std.specs.Prelude.{◌≡◌, ◌⊎◌, ◌≤◌, ◌+◌, ℕ, Bool, false, List, [], ◌∷◌, ◌++◌, length, Option, Some, None}
 use Rattle.std.specs.Option.{option_map_or}
 use Rattle.pg_disk.specs.declared.fault.Fault.{Fault}
 use Rattle.pg_disk.specs.declared.fault.Fault.TheVariants.{Failed, Damaged, Spent, Memory}
-use Rattle.pg_msg.specs.declared.command.Command.{Command}
 use Rattle.pg_msg.specs.declared.limits.TheConstants.{QUEUE_ID_LIMIT}
-use Rattle.pg_msg.specs.declared.command.Command.TheVariants as command
+use Rattle.pg_msg.specs.declared.message.Message.{Message}
 use Rattle.pg_msg.specs.declared.reply.Refusal.{Refusal}
-use Rattle.pg_msg.specs.Replies.{IsBuilt}
+use Rattle.pg_model.specs.Actions.{Action, MakeAddress, MakeQueue, DropQueue, Send, Open, Receive, Acknowledge, Cancel, Close, Count}
+use Rattle.pg_model.specs.Broker.{Settings, address_named, queue_named}
+use Rattle.pg_model.specs.Causes.{IsFirst}
+use Rattle.pg_model.specs.Changes.{message_of, next_id}
+use Rattle.pg_model.specs.Refusals.{causes, routed}
+use Rattle.pg_model.specs.Steps.{Takes}
 use Rattle.pg_records.specs.declared.entry.Entry.{Entry}
 use Rattle.pg_records.specs.declared.entry.Entry.TheVariants as entry
 use Rattle.pg_records.specs.Entries.{HasFields, batch_bytes}
+use Rattle.pg_fold.specs.declared.rows.AddressRow.{AddressRow}
 use Rattle.pg_fold.specs.Fold.{IsApplied}
-use Rattle.pg_recover.specs.Broker.{Broker, place_of, routed, next_id, plain, refusal_of, Step}
+use Rattle.pg_fold.specs.Rows.{has_address}
 use Rattle.pg_recover.specs.WellFormed.{AreRoomy}
+use Rattle.pg_engine.specs.declared.state.Settings.{Settings as MadeWith}
 use Rattle.pg_engine.specs.declared.state.Outcome.{Outcome}
 use Rattle.pg_engine.specs.declared.state.Outcome.TheVariants.{Unchanged, Changed}
-use Rattle.pg_engine.specs.Kept.{Kept, broker_of}
+use Rattle.pg_engine.specs.Kept.{Kept, broker_of, view_of}
 
+-- the settings of an address, as the code has them
+abbrev pub settings_of : MadeWith → Settings
+settings_of settings = record { max = settings.max; page = settings.page; ahead = settings.ahead; dup = settings.dup }
+
+-- ---- what the journal gets
 -- the entry of a message that goes to these queues
-abbrev pub batch_of_message : Broker → ℕ → List ℕ → List ℕ → List Entry
-batch_of_message s place body [] = []
-batch_of_message s place body (number ∷ numbers) =
-    entry.Add (place + 1) (number ∷ numbers) (plain (next_id s) body) ∷ []
+abbrev pub entries_of_message : ℕ → List ℕ → Message → List Entry
+entries_of_message address [] m = []
+entries_of_message address (number ∷ numbers) m = entry.Add address (number ∷ numbers) m ∷ []
 
--- the entries of the batch that a command writes where it isn't refused; one without entries writes nothing
-abbrev pub batch_of : Broker → Command → List Entry
-batch_of s (command.Address name max page ahead dup) =
-    entry.Address (length s.durable.addresses + 1) name max page ahead dup ∷ []
-batch_of s (command.Queue name address None) =
-    option_map_or (λ place. entry.Queue s.durable.next (place + 1) name [] ∷ [])
-    (place_of s.durable.addresses address) []
-batch_of s (command.Send address None None [] body) =
-    option_map_or (λ place. batch_of_message s place body (routed place s.durable.queues))
-    (place_of s.durable.addresses address) []
-batch_of s (command.Queue name address (Some filter)) = []
-batch_of s (command.Send address None None (property ∷ properties) body) = []
-batch_of s (command.Send address None (Some id) properties body) = []
-batch_of s (command.Send address (Some tx) id properties body) = []
-batch_of s (command.DropQueue name) = []
-batch_of s (command.Begin tx) = []
-batch_of s (command.Commit tx) = []
-batch_of s (command.Rollback tx) = []
-batch_of s (command.Consumer name queue) = []
-batch_of s (command.Receive consumer) = []
-batch_of s (command.Ack consumer message tx) = []
-batch_of s (command.Cancel consumer message) = []
-batch_of s (command.Close consumer) = []
-batch_of s (command.Large address name id properties) = []
-batch_of s (command.Part name bytes) = []
-batch_of s (command.End name) = []
-batch_of s (command.PartOf consumer message start count) = []
-batch_of s (command.Cleanup address) = []
-batch_of s (command.Ahead queue) = []
-batch_of s command.Checkpoint = []
-batch_of s (command.Stat address) = []
-batch_of s (command.Count queue) = []
+-- the batch of an action that isn't refused; one without entries writes nothing
+abbrev pub entries_of : Kept → Action → List Entry
+entries_of s (MakeAddress name settings) =
+    entry.Address (length s.durable.addresses + 1) name settings.max settings.page settings.ahead settings.dup ∷ []
+entries_of s (MakeQueue name address) =
+    option_map_or (λ id. entry.Queue s.durable.next id name [] ∷ [])
+    (address_named (broker_of s).durable.addresses address) []
+entries_of s (DropQueue name) =
+    option_map_or (λ q. entry.DropQueue q.id ∷ []) (queue_named (broker_of s).durable.queues name) []
+entries_of s (Send address properties body) =
+    option_map_or
+    (λ id. entries_of_message id (routed (broker_of s) id) (message_of (next_id (broker_of s)) properties body))
+    (address_named (broker_of s).durable.addresses address) []
+entries_of s (Open name queue) = []
+entries_of s (Receive consumer) = []
+entries_of s (Acknowledge consumer id) = []
+entries_of s (Cancel consumer id) = []
+entries_of s (Close consumer) = []
+entries_of s (Count queue) = []
 
 -- no id is left for a further queue
-abbrev pub HasNoQueueId : Broker → Command → Type 0
-HasNoQueueId s (command.Queue name address None) = QUEUE_ID_LIMIT ≤ s.durable.next
-HasNoQueueId s (command.Address name max page ahead dup) = ⊥
-HasNoQueueId s (command.Send address tx id properties body) = ⊥
-HasNoQueueId s (command.Count queue) = ⊥
-HasNoQueueId s (command.Queue name address (Some filter)) = ⊥
-HasNoQueueId s (command.DropQueue name) = ⊥
-HasNoQueueId s (command.Begin tx) = ⊥
-HasNoQueueId s (command.Commit tx) = ⊥
-HasNoQueueId s (command.Rollback tx) = ⊥
-HasNoQueueId s (command.Consumer name queue) = ⊥
-HasNoQueueId s (command.Receive consumer) = ⊥
-HasNoQueueId s (command.Ack consumer message tx) = ⊥
-HasNoQueueId s (command.Cancel consumer message) = ⊥
-HasNoQueueId s (command.Close consumer) = ⊥
-HasNoQueueId s (command.Large address name id properties) = ⊥
-HasNoQueueId s (command.Part name bytes) = ⊥
-HasNoQueueId s (command.End name) = ⊥
-HasNoQueueId s (command.PartOf consumer message start count) = ⊥
-HasNoQueueId s (command.Cleanup address) = ⊥
-HasNoQueueId s (command.Ahead queue) = ⊥
-HasNoQueueId s command.Checkpoint = ⊥
-HasNoQueueId s (command.Stat address) = ⊥
+abbrev pub WantsQueueId : Kept → Action → Type 0
+WantsQueueId s (MakeQueue name address) = QUEUE_ID_LIMIT ≤ s.durable.next
+WantsQueueId s (MakeAddress name settings) = ⊥
+WantsQueueId s (DropQueue name) = ⊥
+WantsQueueId s (Send address properties body) = ⊥
+WantsQueueId s (Open name queue) = ⊥
+WantsQueueId s (Receive consumer) = ⊥
+WantsQueueId s (Acknowledge consumer id) = ⊥
+WantsQueueId s (Cancel consumer id) = ⊥
+WantsQueueId s (Close consumer) = ⊥
+WantsQueueId s (Count queue) = ⊥
 
--- what a command adds to the journal: its batch, and nothing where it is refused
+-- the action isn't refused
+abbrev pub IsAccepted : Kept → Action → Type 0
+IsAccepted s action = IsFirst (causes (view_of s) (broker_of s) action) None
+
+-- nothing where it is refused
 abbrev pub unless_refused : Option Refusal → List Entry → List Entry
 unless_refused None batch = batch
 unless_refused (Some refusal) batch = []
 
-abbrev pub written_by : Broker → Command → List Entry
-written_by s command = unless_refused (refusal_of s command) (batch_of s command)
+-- what is asked adds this to the journal
+abbrev pub Adds : Kept → Option Action → List Entry → Type 0
+Adds s None batch = batch ≡ []
+Adds s (Some action) batch =
+    (refusal : Option Refusal) × IsFirst (causes (view_of s) (broker_of s) action) refusal
+    × (batch ≡ unless_refused refusal (entries_of s action))
+
+-- ---- what comes of it in memory
+-- an action that isn't refused finds no id for its queue
+abbrev pub MeetsNoQueueId : Kept → Option Action → Type 0
+MeetsNoQueueId s None = ⊥
+MeetsNoQueueId s (Some action) = IsAccepted s action × WantsQueueId s action
 
 -- it adds nothing, and doesn't want a queue id where none is left
-pub record AddsNothing (s : Kept) (command : Command) : Type 0 where
-  pub nothing : written_by (broker_of s) command ≡ []
-  pub queue_id : refusal_of (broker_of s) command ≡ None → HasNoQueueId (broker_of s) command → ⊥
+pub record AddsNothing (s : Kept) (asked : Option Action) : Type 0 where
+  pub nothing : Adds s asked []
+  pub queue_id : MeetsNoQueueId s asked → ⊥
 
--- The command isn't refused, its batch has one entry, which gives the state after it, the bytes spell the batch, and
+-- The addresses and what is known of their pages are as before, or there is one more, whose id is new and which has no
+-- page.
+abbrev pub GrowsTo : List AddressRow → List Bool → List AddressRow → List Bool → Type 0
+GrowsTo rows paged more now =
+    ((more ≡ rows) × (now ≡ paged))
+    ⊎ ((row : AddressRow) × (more ≡ rows ++ (row ∷ [])) × (has_address rows row.id ≡ false) × (now ≡ paged ++ (false ∷ [])))
+
+-- The action isn't refused, its batch has one entry, which gives the state after it, the bytes spell the batch, and
 -- the messages have room.
-pub record Records (s : Kept) (command : Command) (batch : List ℕ) (t : Kept) : Type 0 where
+pub record Records (s : Kept) (action : Action) (batch : List ℕ) (t : Kept) : Type 0 where
   pub entry : Entry
-  pub accepted : refusal_of (broker_of s) command ≡ None
-  pub queue_id : HasNoQueueId (broker_of s) command → ⊥
-  pub batch_is : batch_of (broker_of s) command ≡ entry ∷ []
+  pub accepted : IsAccepted s action
+  pub queue_id : WantsQueueId s action → ⊥
+  pub batch_is : entries_of s action ≡ entry ∷ []
   pub applied : IsApplied s.durable entry t.durable
   pub fields : HasFields entry
   pub bytes : batch ≡ batch_bytes (entry ∷ [])
   pub roomy : AreRoomy t.durable
+  pub grows : GrowsTo s.durable.addresses s.paged t.durable.addresses t.paged
+
+-- what is asked does so
+abbrev pub RecordsAsked : Kept → Option Action → List ℕ → Kept → Type 0
+RecordsAsked s None batch t = ⊥
+RecordsAsked s (Some action) batch t = Records s action batch t
 
 -- one step, which keeps the state or has a batch
-abbrev pub IsOutcome : Kept → Command → Outcome → Type 0
-IsOutcome s command (Unchanged t reply) =
-    (t ≡ s) × Step (broker_of s) (Some command) reply (broker_of s) × AddsNothing s command
-IsOutcome s command (Changed t batch reply) =
-    Step (broker_of s) (Some command) reply (broker_of t) × Records s command batch t
+abbrev pub IsOutcome : Kept → Option Action → Outcome → Type 0
+IsOutcome s asked (Unchanged t reply) =
+    (t ≡ s) × Takes (view_of s) (broker_of s) asked reply (broker_of s) × AddsNothing s asked
+IsOutcome s asked (Changed t batch reply) =
+    Takes (view_of s) (broker_of s) asked reply (broker_of t) × RecordsAsked s asked batch t
 
--- the reply is one that is built
-abbrev pub TellsBuilt : Outcome → Type 0
-TellsBuilt (Unchanged t reply) = IsBuilt reply
-TellsBuilt (Changed t batch reply) = IsBuilt reply
-
--- no outcome: for want of memory, or where a command that isn't refused finds no queue id
-abbrev pub IsNoOutcome : Kept → Command → Fault → Type 0
-IsNoOutcome s command Failed = ⊥
-IsNoOutcome s command (Damaged damage) = ⊥
-IsNoOutcome s command Spent = (refusal_of (broker_of s) command ≡ None) × HasNoQueueId (broker_of s) command
-IsNoOutcome s command Memory = Unit {0}
+-- no outcome: for want of memory, or where an action that isn't refused finds no queue id
+abbrev pub IsNoOutcome : Kept → Option Action → Fault → Type 0
+IsNoOutcome s asked Failed = ⊥
+IsNoOutcome s asked (Damaged damage) = ⊥
+IsNoOutcome s asked Spent = MeetsNoQueueId s asked
+IsNoOutcome s asked Memory = Unit {0}

@@ -4,10 +4,8 @@ ghost use Rattle.pg_disk.specs.Account.{account, IsHonest};
 ghost use Rattle.pg_disk.specs.Counts.{CountsFault};
 ghost use Rattle.pg_disk.specs.Sites.{Steps};
 ghost use Rattle.pg_msg.specs.Commands.{IsInRange};
-ghost use Rattle.pg_msg.specs.Replies.{IsBuilt};
-ghost use Rattle.pg_recover.specs.Broker.{Step};
-ghost use Rattle.pg_engine.specs.Executed.{Owns, Executes, IsDamaged, MeetsLimit, Writes, state_of};
-ghost use Rattle.pg_engine.specs.Outcomes.{written_by};
+ghost use Rattle.pg_model.specs.Steps.{Step};
+ghost use Rattle.pg_engine.specs.Executed.{Owns, Executes, IsDamaged, MeetsLimit, WritesFor, seen_by, state_of};
 ghost use Rattle.pg_engine.specs.Opened.{AreParts, engine_of};
 
 use crate::state::{Outcome, State};
@@ -39,8 +37,12 @@ impl Engine {
         requires { AreParts parts }
         ensures { IfOk result (λ engine. engine ≡ engine_of limits.now.ids parts) }
     {
-        let Parts { journal, durable } = parts;
-        let state = State::new(alloc, durable, limits.ids)?;
+        let Parts {
+            journal,
+            durable,
+            paged,
+        } = parts;
+        let state = State::new(alloc, durable, paged, limits.ids)?;
         Ok(Engine { journal, state })
     }
 
@@ -58,12 +60,11 @@ impl Engine {
         ensures executes { IsHonest (D.tells disk.old) → (IsErr result × (disk.new ≡ disk.old))
             ⊎ Executes D.Disk (state_of self) (Some command) disk.old disk.new result }
         // The reply and the state are those of the step, on every site.
-        ensures steps { IfOk result (λ done. Step (state_of self) (Some command) done.1 (state_of done.0)) }
+        ensures steps { IfOk result (λ done.
+            Step (seen_by self) (state_of self) (Some command) done.1 (state_of done.0)) }
         // The journal gets exactly the batch of the command.
         ensures writes { IfOk result
-            (λ done. Steps D.Disk disk.old disk.new (Writes self.journal done.0.journal
-            (written_by (state_of self) command))) }
-        ensures built { IfOk result (λ done. IsBuilt done.1) }
+            (λ done. Steps D.Disk disk.old disk.new (WritesFor self command done.0.journal)) }
         ensures back { IsHonest (D.tells disk.new) → IsHonest (D.tells disk.old) }
         ensures never_damaged { IfErr result (λ fault. IsDamaged fault → ⊥) }
         ensures untouched { IsErrOf result Fault.Spent → disk.new ≡ disk.old }

@@ -2,8 +2,9 @@
 #![tactic(auto)]
 
 mod engine;
+mod naming;
 mod opening;
-mod routes;
+mod recording;
 mod state;
 
 pub use engine::Engine;

@@ -158,7 +158,7 @@ pub fn open(alloc: Global, site: &mut MemSite, epochs: u32) -> Result<usize, Fau
         input: 9,
     };
     let parts = recover(alloc, site, &limits)?;
-    Ok(parts.durable.journaled.as_slice().len())
+    Ok(parts.durable.journaled.len())
 }
 
 // Whether an opening came to this.

@@ -3,7 +3,7 @@ ghost use Rattle.std.specs.Prelude.{◌<◌, ◌^◌, IfOk};
 ghost use Rattle.pg_msg.specs.Messages.{HasFields};
 
 use pg_bytes::Octets;
-use pg_fold::JournaledRow;
+use pg_fold::{Holders, JournaledRow, JournaledRows};
 use pg_msg::{Body, Message, MessageId, Properties, QueueIds};
 use pg_recover::weights_by_address;
 use std::alloc::{AllocError, Global};
@@ -25,13 +25,16 @@ fn row(alloc: Global, address: u32, size: usize) -> Result<JournaledRow, AllocEr
             properties: Properties::new(alloc),
             body: Body::Plain(Octets::from_vec(vec![in alloc; 7; size]?)),
         },
-        holders: QueueIds::from_vec(vec![in alloc; 1]?),
+        holders: Holders::from_ids(QueueIds::from_vec(vec![in alloc; 1]?)),
     })
 }
 
 // Whether each address has its own messages' weight. Each message has 15 bytes beside its body, and the third address has none.
 fn weighs(alloc: Global) -> Result<bool, AllocError> {
-    let rows = vec![in alloc; row(alloc, 2, 3)?, row(alloc, 1, 0)?, row(alloc, 2, 12)?]?;
+    let mut rows = JournaledRows::new(alloc);
+    rows.push(alloc, row(alloc, 2, 3)?)?;
+    rows.push(alloc, row(alloc, 1, 0)?)?;
+    rows.push(alloc, row(alloc, 2, 12)?)?;
     let sums = weights_by_address(alloc, 3, &rows)?;
     Ok(sums.as_slice() == [15, 45, 0].as_slice())
 }

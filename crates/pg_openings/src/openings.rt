@@ -112,6 +112,41 @@ fn a_second_run_goes_on_where_the_first_ended(rt: HostRuntime) -> Result<(), Fai
     Ok(())
 }
 
+/// The journal of a broker with the address A, whose `max` is 50, in epoch 1.
+const ADDRESSED: &[u8] =
+    b"\x01\0\0\0\0\0\0\0\x05\x01\0\0\0\x01\x01\0\0\0\0\0\0\0\x23\x02\0\0\0\x01\x01A\0\0\0\0\0\0\0\x32\0\0\0\0\0\0\0\x64\0\0\0\0\0\0\0\0\0\0\0\0\0";
+
+/// What is there beside the journal, and the replies to a script that sends one message. An address with a page takes
+/// none, since that would be paged; where it has no queue the message goes nowhere.
+const PAGED: [(Contents, &[u8]); 2] = [
+    (
+        &[(JOURNAL, ADDRESSED)],
+        b"unrouted\nok\nsent 2-1\ncount 1\n",
+    ),
+    (
+        &[(JOURNAL, ADDRESSED), (PAGE, b"\0")],
+        b"unrouted\nok\nno line\ncount 0\n",
+    ),
+];
+
+/// The replies to the first case that goes otherwise.
+fn wrong_page(alloc: Global) -> Result<Option<&'static [u8]>, AllocError> {
+    for (files, replies) in PAGED {
+        let mut site = site_of(alloc, files)?;
+        let script = b"send A body x\nqueue Q on A\nsend A body x\ncount Q\n";
+        if !answers(alloc, &mut site, script, replies)? {
+            return Ok(Some(replies));
+        }
+    }
+    Ok(None)
+}
+
+#[test]
+fn an_address_with_a_page_takes_no_message(rt: HostRuntime) -> Result<(), Fail> {
+    assert!(rt; wrong_page(rt.alloc())?.is_none());
+    Ok(())
+}
+
 /// How the gate of the last message is left by a run that is stopped within its write, and the messages that count then.
 const GATES: [(Pick, &[u8]); 3] = [
     (Pick::Old, b"count 2\n"),

@@ -7,6 +7,7 @@ pub mod ListingLemmas
 pub mod OneState
 pub mod OpenedLemmas
 pub mod OrderLemmas
+pub mod PagingLemmas
 pub mod PieceLemmas
 pub mod PlaceLemmas
 pub mod RecoveredLemmas

@@ -104,7 +104,7 @@ module _ (files : FinMap file_cmp FileState) (ids : List FileId) (is : ids ≡ k
   there_listed file there = Contains-from_any (tells_apart files_exact) file ids (there_any file ∙ ap is_some there.1)
 
 -- a file is among these
-abbrev IsAmong : List FileId → FileId → Type 0
+abbrev pub IsAmong : List FileId → FileId → Type 0
 IsAmong [] q = ⊥
 IsAmong (f ∷ fs) q = (q ≡ f) ⊎ IsAmong fs q
 
@@ -207,10 +207,10 @@ module _ (contents : Contents) (d : Durable) (folds : FoldsTo contents d) where
       all_broken (Some f) fs up.0 up.1 (λ g among. there g (inr among)) (λ q is. still_seen before f fs behind q (seen q is)) damage more
 
 module _ (files : FinMap file_cmp FileState) (ids : List FileId) (is : ids ≡ keys files) where
-  among_there : (f : FileId) → IsAmong ids f → IsThere (as_read files) f
+  pub among_there : (f : FileId) → IsAmong ids f → IsThere (as_read files) f
   among_there f among = let there = some_there files ids is (get files f) (sym (there_any files ids is f) ∙ any_among ids f among) in (there.0.bytes, ap bytes_of there.1)
 
-  there_among : (q : FileId) → IsThere (as_read files) q → IsAmong ids q
+  pub there_among : (q : FileId) → IsThere (as_read files) q → IsAmong ids q
   there_among q there = among_any ids q (there_any files ids is q ∙ read_some (get files q) there.0 there.1)
     where
       read_some : (o : Option FileState) (bytes : List ℕ) → bytes_of o ≡ Some bytes → is_some o ≡ true

@@ -19,8 +19,8 @@ use Rattle.pg_journal.specs.Generations.{JournalOf}
 use Rattle.pg_disk.specs.Views.{Contents, as_read, bytes_of}
 use Rattle.pg_journal.proofs.Saying.{left_keeps, quiet_says}
 use Rattle.pg_recover.specs.declared.recovering.Parts.{Parts}
-use Rattle.pg_recover.specs.Broker.{next_epoch}
-use Rattle.pg_recover.specs.Broker.{Durable as BrokerDurable}
+use Rattle.pg_model.specs.Broker.{next_epoch}
+use Rattle.pg_model.specs.Broker.{Durable as BrokerDurable}
 use Rattle.pg_recover.specs.Damaging.{IsBrokenThere, OnDamage}
 use Rattle.pg_recover.specs.Denotation.{Denotes, FoldsTo, durable_part, raised}
 use Rattle.pg_recover.specs.Recovered.{AreKept, Gives, HasNoEpoch, IsKeptGeneration, IsSpentAt, KeepsBytes, KeepsFiles, KeepsOthers, LeavesOpened, OpensFiles, Owns}

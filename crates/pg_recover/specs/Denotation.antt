@@ -1,5 +1,5 @@
 -- What the files of a directory denote: the durable part of a broker.
-use Rattle.std.specs.Prelude.{◌≡◌, ◌+◌, ◌-◌, ℕ, List, map, filter, sum_by, Some, ◌==◌}
+use Rattle.std.specs.Prelude.{◌≡◌, ◌+◌, ℕ, List, map, filter, sum_by, Some, ◌==◌}
 use Rattle.pg_msg.specs.declared.message.Message.{Message}
 use Rattle.pg_msg.specs.Messages.{weight_of}
 use Rattle.pg_records.specs.declared.entry.Entry.{Entry}
@@ -12,8 +12,8 @@ use Rattle.pg_fold.specs.Fold.{fold, fresh}
 use Rattle.pg_fold.specs.Rows.{has_number}
 use Rattle.pg_journal.specs.Generations.{JournalOf}
 use Rattle.pg_disk.specs.Views.{Contents}
-use Rattle.pg_recover.specs.Broker.{Address, Queue}
-use Rattle.pg_recover.specs.Broker.{Durable as BrokerDurable}
+use Rattle.pg_model.specs.Broker.{Address, Queue}
+use Rattle.pg_model.specs.Broker.{Durable as BrokerDurable}
 
 -- the messages that the queue holds, in order
 abbrev pub held_by : ℕ → List JournaledRow → List Message
@@ -27,28 +27,22 @@ held_at address rows = map (λ row. row.message) (filter (λ row. row.address ==
 abbrev pub weight_at : ℕ → List JournaledRow → ℕ
 weight_at address rows = sum_by weight_of (held_at address rows)
 
-abbrev pub address_of : List JournaledRow → AddressRow → Address
-address_of rows row =
-    record {
-      name = row.name;
-      max = row.max;
-      page = row.page;
-      ahead = row.ahead;
-      dup = row.dup;
-      held = held_at row.id rows;
-    }
+-- an address and a queue of the broker, from their rows
+abbrev pub address_of : AddressRow → Address
+address_of row = record {
+  name = row.name;
+  settings = record { max = row.max; page = row.page; ahead = row.ahead; dup = row.dup };
+}
 
--- the id of an address is its place, from 1
 abbrev pub queue_of : List JournaledRow → QueueRow → Queue
-queue_of rows row =
-    record { id = row.id; name = row.name; address = row.address - 1; messages = held_by row.id rows }
+queue_of rows row = record { id = row.id; name = row.name; address = row.address; messages = held_by row.id rows }
 
 -- the durable part that a state stands for
 abbrev pub durable_part : Durable → BrokerDurable
 durable_part d = record {
   epoch = d.epoch;
   next = d.next;
-  addresses = map (address_of d.journaled) d.addresses;
+  addresses = map address_of d.addresses;
   queues = map (queue_of d.journaled) d.queues;
 }
 

@@ -1,4 +1,3 @@
-pub mod Broker
 pub mod Damaging
 pub mod Denotation
 pub mod Folding
@@ -10,4 +9,5 @@ pub mod Removing
 pub mod Said
 pub mod Staying
 pub mod Syncing
+pub mod Viewing
 pub mod WellFormed

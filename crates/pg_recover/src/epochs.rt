@@ -1,5 +1,5 @@
 // The next epoch is begun.
-ghost use Rattle.std.specs.Prelude.{◌≡◌, ◌<◌, ◌≤◌, ◌+◌, ◌^◌, None, IfOk, IfErr, OnOk};
+ghost use Rattle.std.specs.Prelude.{◌≡◌, ◌<◌, ◌≤◌, ◌+◌, ◌^◌, None, map, IfOk, IfErr, OnOk};
 ghost use Rattle.pg_disk.specs.Sites.{OnBoth, OnFiles, Steps};
 ghost use Rattle.pg_disk.specs.Account.{AllQuiet};
 ghost use Rattle.pg_disk.specs.Counts.{CountsFault};
@@ -12,9 +12,11 @@ ghost use Rattle.pg_recover.specs.Listing.{AreListed};
 ghost use Rattle.pg_recover.specs.Raising.{IsFailedOrMemory, IsReady, IsUnfit, LeavesRaised};
 ghost use Rattle.pg_recover.specs.Recovered.{OpensFiles, Owns};
 ghost use Rattle.pg_recover.specs.Said.{KeepsWhole};
+ghost use Rattle.pg_recover.specs.Viewing.{is_paged};
 ghost use Rattle.pg_recover.specs.WellFormed.{AreRoomy};
 
 use crate::listing::listing_damage;
+use crate::paging::paged_addresses;
 use crate::recovering::Parts;
 use crate::removing::remove_others;
 use crate::room::is_roomy;
@@ -28,15 +30,16 @@ use std::alloc::Global;
 // The greatest counted length, in bytes, of a journal that has room for the batch of an epoch.
 const FULL: u64 = (1 << 62) - 14;
 
-// Whether the state may stand beside these files, and has a next epoch.
+// Whether the state may stand beside these files, and has a next epoch. Tells of each address whether it has a page.
 pub(crate) fn check_state(
     alloc: Global,
     files: &[FileId],
     journal: &Journal,
     durable: &Durable,
     limits: &Limits,
-) -> Result<(), Fault>
+) -> Result<Vec<bool>, Fault>
     requires { IsSound durable.now }
+    ensures paged { IfOk result (λ paged. paged.items ≡ map (is_paged files.now) durable.now.addresses) }
     ensures listed { OnOk result (AreListed durable.now.addresses None files.now) }
     ensures roomy { OnOk result (AreRoomy durable.now) }
     ensures next { OnOk result (durable.now.epoch + 1 < limits.now.epochs) }
@@ -57,7 +60,7 @@ pub(crate) fn check_state(
     if limits.epochs.saturating_sub(1) <= durable.epoch || journal.length() > FULL {
         return Err(Fault::Spent);
     }
-    Ok(())
+    Ok(paged_addresses(alloc, files, durable.addresses.as_slice())?)
 }
 
 // Removes the other generations, and adds the batch of the next epoch.
@@ -67,11 +70,13 @@ pub(crate) fn begin_epoch<D: Disk>(
     files: &[FileId],
     journal: Journal,
     mut durable: Durable,
+    paged: Vec<bool>,
 ) -> Result<Parts, Fault>
     requires ready { OnFiles D.Disk disk.old (IsReady journal durable files.now) }
     requires next { durable.epoch + 1 < 2 ^ 32 }
     requires room { counted journal + 14 ≤ 2 ^ 62 }
     ensures raised { IfOk result (λ parts. parts.durable ≡ raised durable) }
+    ensures paged { IfOk result (λ parts. parts.paged ≡ paged) }
     ensures owned { IfOk result (λ parts. OnBoth D.Disk disk.old disk.new (λ _ now.
         Owns parts.journal parts.durable now × AllQuiet now)) }
     ensures keeps { OnOk result (OnBoth D.Disk disk.old disk.new (λ was now. KeepsWhole (as_read was) (as_read now))) }
@@ -85,5 +90,9 @@ pub(crate) fn begin_epoch<D: Disk>(
     remove_others(disk, files, journal.file())?;
     let journal = journal.append(disk, &batch)?;
     durable.epoch = epoch;
-    Ok(Parts { journal, durable })
+    Ok(Parts {
+        journal,
+        durable,
+        paged,
+    })
 }

@@ -5,6 +5,7 @@ mod epochs;
 mod folding;
 mod grouping;
 mod listing;
+mod paging;
 mod reading;
 mod recovering;
 mod removing;

@@ -1,5 +1,5 @@
 // Opening over the files of a directory, and what that gives.
-ghost use Rattle.std.specs.Prelude.{◌≡◌, All, IfOk, IfErr, OnOk};
+ghost use Rattle.std.specs.Prelude.{◌≡◌, All, length, IfOk, IfErr, OnOk};
 ghost use Rattle.std.specs.FinMap.{keys};
 ghost use Rattle.pg_disk.specs.Account.{AllQuiet};
 ghost use Rattle.pg_disk.specs.Sites.{OnBoth, OnFiles, Steps};
@@ -8,11 +8,12 @@ ghost use Rattle.pg_disk.specs.Image.{AnyFile, OnceQuiet};
 ghost use Rattle.pg_disk.specs.Meanings.{Decides};
 ghost use Rattle.pg_disk.specs.Moments.{Within, WithinFrom};
 ghost use Rattle.pg_disk.specs.Views.{as_read};
-ghost use Rattle.pg_recover.specs.Broker.{next_epoch};
+ghost use Rattle.pg_model.specs.Broker.{next_epoch};
 ghost use Rattle.pg_recover.specs.Damaging.{IsBrokenThere, OnDamage};
 ghost use Rattle.pg_recover.specs.Denotation.{Denotes, FoldsTo, raised};
 ghost use Rattle.pg_recover.specs.Recovered.{AreKept, IsBegun, HasNoEpoch, IsEpoch, IsIllFormed, IsSpentAt};
 ghost use Rattle.pg_recover.specs.Recovered.{GivesNext, GivesSame, LeavesOpened, OpensFiles, Owns};
+ghost use Rattle.pg_recover.specs.Viewing.{ArePaged};
 ghost use Rattle.pg_recover.specs.WellFormed.{AreRoomy, IsGapless, IsNamed, IsThere, WellFormed};
 
 use crate::epochs::{begin_epoch, check_state};
@@ -24,11 +25,13 @@ use pg_journal::Journal;
 use pg_msg::Limits;
 use std::alloc::Global;
 
-/// What an opening gives: the journal at rest, and the state in the epoch that was begun.
+/// What an opening gives: the journal at rest, the state in the epoch that was begun, and of each address, in the order
+/// of their ids, whether it has a page from its first one on.
 #[derive(Drop)]
 pub struct Parts {
     pub journal: Journal,
     pub durable: Durable,
+    pub paged: Vec<bool>,
 }
 
 // Opens over files of which nothing is pending.
@@ -49,6 +52,9 @@ fn open_synced<D: Disk>(
         IsNamed parts.durable.addresses file)) }
     ensures gapless { IfOk result (λ parts. OnFiles D.Disk disk.old (λ files.
         All (IsGapless (as_read files)) parts.durable.addresses)) }
+    ensures counted { IfOk result (λ parts. length parts.paged.items ≡ length parts.durable.addresses) }
+    ensures paged { IfOk result (λ parts. OnFiles D.Disk disk.old (λ files.
+        ArePaged (as_read files) parts.durable.addresses parts.paged.items)) }
     ensures well { OnOk result (OnBoth D.Disk disk.old disk.new (λ was now.
         WellFormed (as_read was) → WellFormed (as_read now))) }
     ensures stays { Steps D.Disk disk.old disk.new OpensFiles }
@@ -61,8 +67,8 @@ fn open_synced<D: Disk>(
     ensures cause { CountsFault (D.faults disk.old) (D.faults disk.new) result }
 {
     let (journal, durable) = read_journal(alloc, disk)?;
-    check_state(alloc, files, &journal, &durable, limits)?;
-    begin_epoch(alloc, disk, files, journal, durable)
+    let paged = check_state(alloc, files, &journal, &durable, limits)?;
+    begin_epoch(alloc, disk, files, journal, durable, paged)
 }
 
 /// Opens over whatever files are there: syncs every file, reads the journal, removes its other generations, and begins
@@ -89,6 +95,9 @@ pub fn recover<D: Disk>(alloc: Global, disk: &mut D, limits: &Limits) -> Result<
         IsNamed parts.durable.addresses file)) }
     ensures gapless { IfOk result (λ parts. OnFiles D.Disk disk.old (λ files.
         All (IsGapless (as_read files)) parts.durable.addresses)) }
+    ensures counted { IfOk result (λ parts. length parts.paged.items ≡ length parts.durable.addresses) }
+    ensures paged { IfOk result (λ parts. OnFiles D.Disk disk.old (λ files.
+        ArePaged (as_read files) parts.durable.addresses parts.paged.items)) }
     ensures well { OnOk result (OnBoth D.Disk disk.old disk.new (λ was now.
         WellFormed (as_read was) → WellFormed (as_read now))) }
     ensures stays { Steps D.Disk disk.old disk.new OpensFiles }

@@ -6,7 +6,7 @@ ghost use Rattle.pg_recover.specs.Denotation.{weight_at};
 ghost use Rattle.pg_fold.specs.Sound.{IsSound};
 ghost use Rattle.pg_recover.specs.WellFormed.{AreRoomy};
 
-use pg_fold::{AddressRow, Durable, JournaledRow};
+use pg_fold::{AddressRow, Durable, JournaledRow, JournaledRows};
 use pg_msg::weight;
 use std::alloc::{AllocError, Global};
 
@@ -33,7 +33,7 @@ fn add_weight(sums: &mut Vec<u64>, row: &JournaledRow)
 pub fn weights_by_address(
     alloc: Global,
     count: usize,
-    rows: &[JournaledRow],
+    rows: &JournaledRows,
 ) -> Result<Vec<u64>, AllocError>
     requires { All (λ row. HasFields row.message) rows.now }
     ensures count { IfOk result (λ sums. length sums.items ≡ count) }
@@ -41,8 +41,8 @@ pub fn weights_by_address(
         slice_index sums.items k ≡ min (weight_at (k + 1) rows.now) (2 ^ 64 - 1))) }
 {
     let mut sums = vec![in alloc; 0; count]?;
-    for row in rows {
-        add_weight(&mut sums, row);
+    for place in 0..rows.len() {
+        add_weight(&mut sums, rows.row(place));
     }
     Ok(sums)
 }
@@ -68,6 +68,6 @@ pub(crate) fn is_roomy(alloc: Global, durable: &Durable) -> Result<bool, AllocEr
     ensures { IfOk result (λ roomy. IsTrue roomy ↔ AreRoomy durable.now) }
 {
     let addresses = durable.addresses.as_slice();
-    let sums = weights_by_address(alloc, addresses.len(), durable.journaled.as_slice())?;
+    let sums = weights_by_address(alloc, addresses.len(), &durable.journaled)?;
     Ok(are_light(addresses, &sums))
 }

@@ -20,12 +20,15 @@ use Rattle.pg_text.specs.Spelling.{ReadsAs}
 use Rattle.pg_text.specs.Replies.{reply_line, reply_bytes}
 use Rattle.pg_disk.specs.Views.{as_left, as_read}
 use Rattle.pg_engine.specs.declared.engine.Engine.{Engine}
-use Rattle.pg_recover.specs.Broker.{Broker, Step, last_state}
+use Rattle.pg_model.specs.Broker.{Broker}
+use Rattle.pg_model.specs.Steps.{StepSeen, last_state}
 use Rattle.pg_recover.specs.Denotation.{Denotes}
 use Rattle.pg_recover.specs.Staying.{LeavesWell, StaysWell}
 use Rattle.pg_recover.specs.WellFormed.{WellFormed}
 use Rattle.pg_recover.proofs.WellLemmas.{image_well}
 use Rattle.pg_engine.specs.Executed.{state_of, Owns, Keeps, StandsAt, Executes}
+use Rattle.pg_disk.specs.Views.{as_read}
+use Rattle.pg_recover.specs.Viewing.{IsSeen}
 use Rattle.pg_engine.proofs.Executing.{owned_denote}
 use Rattle.pg_run.specs.Answered.{Answers, IsPartOf}
 use Rattle.pg_run.specs.Served.{Tells, LeavesBetween, Serves, ServesAll}
@@ -100,6 +103,10 @@ module _ (first : Broker) (item : Option Command) (reply : Reply) (next : Broker
         well = λ quiet was. image_well (account mid).files image (stays.quiet quiet) left.image (stays.well quiet was);
       }
 
+-- a command that was executed is a step under the view of the files that there were
+seen_step : {D : Type 0} (m : Ghosts D) (first : Broker) (item : Option Command) (old new : D) (result : Result (Engine × Reply) Fault) → (executes : Executes m first item old new result) → StepSeen IsSeen first item executes.reply executes.next
+seen_step m first item old new result executes = (executes.view, (as_read (account (m.tells old)).files, executes.shown), executes.step)
+
 -- what holds of an error holds of a result that is one
 at_err : {T E : Type 0} (P : T → Type 0) (Q : E → Type 0) (result : Result T E) → IsErr result → ((e : E) → Q e) → MatchResult result P Q
 at_err P Q (Ok x) failed is = cc
@@ -161,7 +168,7 @@ module _ {D : Type 0} (m : Ghosts D) (old : D) (first : Broker) (line : List ℕ
     told = nothing_told;
   } in (serves, refl)
 
-  module _ (item : Option Command) (reads : ReadsAs line item) (reply : Reply) (next : Broker) (step : Step first item reply next) (mid : D)
+  module _ (item : Option Command) (reads : ReadsAs line item) (reply : Reply) (next : Broker) (step : StepSeen IsSeen first item reply next) (mid : D)
       (moments : Decides m (Keeps first.durable) (Keeps next.durable) old mid) (told : (account (m.tells mid)).told ≡ (account (m.tells old)).told) where
     -- the line was interrupted, and nothing is told of its reply
     pub interrupted : IsHonest (m.tells mid) → (serves : Serves LeavesBetween m first (line ∷ []) old mid) × (serves.told.part ≡ [])
@@ -244,7 +251,7 @@ module _ {D : Type 0} (m : Ghosts D) (old : D) (first : Broker) (line : List ℕ
       → (serves : Serves LeavesBetween m first (line ∷ []) old mid) × (serves.told.part ≡ [])
   gave_up engine law stands owns mid result outcome = elim outcome [
     | inl none ↦ subst (λ d. (serves : Serves LeavesBetween m first (line ∷ []) old d) × (serves.told.part ≡ [])) (sym none.1) (unanswered engine law stands owns)
-    | inr some ↦ interrupted some.0 some.1 some.2.reply some.2.next some.2.step mid some.2.moments some.2.told some.2.kept
+    | inr some ↦ interrupted some.0 some.1 some.2.reply some.2.next (seen_step m first some.0 old mid result some.2) mid some.2.moments some.2.told some.2.kept
   ]
 
   no_err : (result : Result (Engine × Reply) Fault) (done : Engine × Reply) → result ≡ Ok done → IsErr result → ⊥
@@ -258,7 +265,7 @@ module _ {D : Type 0} (m : Ghosts D) (old : D) (first : Broker) (line : List ℕ
     pub item : Option Command
     pub reads : ReadsAs line item
     pub next : Broker
-    pub step : Step first item reply next
+    pub step : StepSeen IsSeen first item reply next
     pub moments : Decides m (Keeps first.durable) (Keeps next.durable) old mid
     pub told : (account (m.tells mid)).told ≡ (account (m.tells old)).told
     pub stands : StandsAt engine next (m.tells mid)
@@ -272,7 +279,7 @@ module _ {D : Type 0} (m : Ghosts D) (old : D) (first : Broker) (line : List ℕ
       item = some.0;
       reads = some.1;
       next = some.2.next;
-      step = subst (λ r. Step first some.0 r some.2.next) (sym some.2.ok.0) some.2.step;
+      step = subst (λ r. StepSeen IsSeen first some.0 r some.2.next) (sym some.2.ok.0) (seen_step m first some.0 old mid (Ok (engine, reply)) some.2);
       moments = some.2.moments;
       told = some.2.told;
       stands = some.2.ok.1;

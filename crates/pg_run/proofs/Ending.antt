@@ -8,7 +8,7 @@ use Rattle.pg_disk.specs.declared.disk.Disk.{Ghosts}
 use Rattle.pg_disk.specs.declared.fault.Fault.TheVariants as fault
 use Rattle.pg_disk.specs.declared.fault.SiteFault.{SiteFault}
 use Rattle.pg_disk.specs.declared.fault.SiteFault.TheVariants as site
-use Rattle.pg_disk.specs.Account.{Account, account, IsHonest}
+use Rattle.pg_disk.specs.Account.{account, IsHonest}
 use Rattle.pg_disk.specs.Files.{Files}
 use Rattle.pg_disk.specs.Image.{Leaves}
 use Rattle.pg_disk.specs.Reads.{TakesFrom}
@@ -23,7 +23,7 @@ use Rattle.pg_lines.proofs.LineLemmas.{TakesFrom-then}
 use Rattle.pg_text.specs.Spelling.{ReadsAs}
 use Rattle.pg_text.proofs.ReadingLemmas.{kept_reads}
 use Rattle.pg_engine.specs.declared.engine.Engine.{Engine}
-use Rattle.pg_recover.specs.Broker.{Broker}
+use Rattle.pg_model.specs.Broker.{Broker}
 use Rattle.pg_engine.specs.Executed.{state_of, Owns, StandsAt, MeetsLimit}
 use Rattle.pg_run.specs.declared.run.Stop.{Stop}
 use Rattle.pg_run.specs.declared.run.Stop.TheVariants.{Site, Source}

@@ -9,7 +9,9 @@ use Rattle.pg_msg.specs.declared.reply.Reply.{Reply}
 use Rattle.pg_text.specs.Spelling.{ReadAs}
 use Rattle.pg_text.specs.Replies.{reply_text, reply_line, reply_bytes, BeginsNext}
 use Rattle.pg_disk.specs.Views.{as_left}
-use Rattle.pg_recover.specs.Broker.{Broker, Run, last_state}
+use Rattle.pg_model.specs.Broker.{Broker}
+use Rattle.pg_model.specs.Refusals.{View}
+use Rattle.pg_model.specs.Steps.{Run, last_state}
 use Rattle.pg_recover.specs.Denotation.{Denotes}
 use Rattle.pg_recover.specs.Staying.{StaysWell}
 use Rattle.pg_run.specs.Served.{Tells, LeavesBetween}
@@ -62,23 +64,23 @@ pub last_state-append : (s : Broker) (xs ys : List Broker) → last_state s (xs 
 last_state-append s [] ys = refl
 last_state-append s (x ∷ xs) ys = last_state-append x xs ys
 
-pub run_then : (s : Broker) (items more_items : List (Option Command)) (replies more_replies : List Reply) (states more_states : List Broker) → Run s items replies states → Run (last_state s states) more_items more_replies more_states
-    → Run s (items ++ more_items) (replies ++ more_replies) (states ++ more_states)
-run_then s [] more_items [] more_replies [] more_states run more = more
-run_then s [] more_items [] more_replies (t ∷ states) more_states run more = absurd run
-run_then s [] more_items (r ∷ replies) more_replies states more_states run more = absurd run
-run_then s (i ∷ items) more_items [] more_replies states more_states run more = absurd run
-run_then s (i ∷ items) more_items (r ∷ replies) more_replies [] more_states run more = absurd run
-run_then s (i ∷ items) more_items (r ∷ replies) more_replies (t ∷ states) more_states run more = (run.0, run_then t items more_items replies more_replies states more_states run.1 more)
+pub run_then : (Sees : Broker → View → Type 0) (s : Broker) (items more_items : List (Option Command)) (replies more_replies : List Reply) (states more_states : List Broker) → Run Sees s items replies states → Run Sees (last_state s states) more_items more_replies more_states
+    → Run Sees s (items ++ more_items) (replies ++ more_replies) (states ++ more_states)
+run_then Sees s [] more_items [] more_replies [] more_states run more = more
+run_then Sees s [] more_items [] more_replies (t ∷ states) more_states run more = absurd run
+run_then Sees s [] more_items (r ∷ replies) more_replies states more_states run more = absurd run
+run_then Sees s (i ∷ items) more_items [] more_replies states more_states run more = absurd run
+run_then Sees s (i ∷ items) more_items (r ∷ replies) more_replies [] more_states run more = absurd run
+run_then Sees s (i ∷ items) more_items (r ∷ replies) more_replies (t ∷ states) more_states run more = (run.0, run_then Sees t items more_items replies more_replies states more_states run.1 more)
 
 -- one reply and one state a line
-pub run_lengths : (s : Broker) (items : List (Option Command)) (replies : List Reply) (states : List Broker) → Run s items replies states → (length states ≡ length replies) × (length items ≡ length replies)
-run_lengths s [] [] [] run = (refl, refl)
-run_lengths s [] [] (t ∷ states) run = absurd run
-run_lengths s [] (r ∷ replies) states run = absurd run
-run_lengths s (i ∷ items) [] states run = absurd run
-run_lengths s (i ∷ items) (r ∷ replies) [] run = absurd run
-run_lengths s (i ∷ items) (r ∷ replies) (t ∷ states) run = let l = run_lengths t items replies states run.1 in (ap suc l.0, ap suc l.1)
+pub run_lengths : (Sees : Broker → View → Type 0) (s : Broker) (items : List (Option Command)) (replies : List Reply) (states : List Broker) → Run Sees s items replies states → (length states ≡ length replies) × (length items ≡ length replies)
+run_lengths Sees s [] [] [] run = (refl, refl)
+run_lengths Sees s [] [] (t ∷ states) run = absurd run
+run_lengths Sees s [] (r ∷ replies) states run = absurd run
+run_lengths Sees s (i ∷ items) [] states run = absurd run
+run_lengths Sees s (i ∷ items) (r ∷ replies) [] run = absurd run
+run_lengths Sees s (i ∷ items) (r ∷ replies) (t ∷ states) run = let l = run_lengths Sees t items replies states run.1 in (ap suc l.0, ap suc l.1)
 
 -- where all lines are read, the items of further ones stand behind
 pub read_then : (lines more_lines : List (List ℕ)) (items more_items : List (Option Command)) → ReadAs lines items → length items ≡ length lines → ReadAs more_lines more_items → ReadAs (lines ++ more_lines) (items ++ more_items)

@@ -1,9 +1,10 @@
 -- A run so far, and each way in which it ends.
-use Rattle.std.proofs.Common.{◌≡◌, inl, inr, ⊎_elim, ℕ, ◌+◌, List, [], ◌∷◌, ◌++◌, length, take, Option, refl, sym, ◌∙◌, ap, subst, arith, append_assoc, length-append}
+use Rattle.std.proofs.Common.{◌≡◌, inl, inr, ⊎_elim, ℕ, ◌+◌, List, [], ◌∷◌, ◌++◌, length, take, refl, sym, ◌∙◌, ap, subst, arith, append_assoc, length-append}
 use Rattle.std.proofs.lemmas.List.{append-nil, take_all}
 use Rattle.std.proofs.Math.Seq.{drop-length}
+use Rattle.pg_recover.specs.Viewing.{IsSeen}
 use Rattle.pg_disk.specs.declared.disk.Disk.{Ghosts}
-use Rattle.pg_disk.specs.Account.{Account, account, IsHonest}
+use Rattle.pg_disk.specs.Account.{account, IsHonest}
 use Rattle.pg_disk.specs.Files.{Files}
 use Rattle.pg_disk.specs.Image.{Leaves, IsImage}
 use Rattle.pg_disk.proofs.Composing.{started, weaker, then_run}
@@ -13,7 +14,8 @@ use Rattle.pg_text.specs.Replies.{reply_bytes, BeginsNext}
 use Rattle.pg_text.proofs.ReadingLemmas.{read_more, kept_one}
 use Rattle.pg_disk.specs.Views.{as_left}
 use Rattle.pg_engine.specs.declared.engine.Engine.{Engine}
-use Rattle.pg_recover.specs.Broker.{Broker, Run, last_state}
+use Rattle.pg_model.specs.Broker.{Broker}
+use Rattle.pg_model.specs.Steps.{Run, last_state}
 use Rattle.pg_recover.specs.Denotation.{Denotes}
 use Rattle.pg_recover.proofs.WellLemmas.{image_well}
 use Rattle.pg_engine.specs.Executed.{state_of, StandsAt}
@@ -81,7 +83,7 @@ module _ {D : Type 0} (m : Ghosts D) (first : Broker) (old : D) where
   }
 
   pub reply_count : (lines : List (List ℕ)) (new : D) (engine : Engine) (s : ServesAll m first lines old new engine) → length s.replies ≡ length lines
-  reply_count lines new engine s = sym (run_lengths first s.items s.replies s.states s.run).1 ∙ s.all
+  reply_count lines new engine s = sym (run_lengths IsSeen first s.items s.replies s.states s.run).1 ∙ s.all
 
   -- whatever a crash leaves after it denotes the last state
   pub rests : (lines : List (List ℕ)) (new : D) (engine : Engine) (s : ServesAll m first lines old new engine) (image : Files) → IsImage (account (m.tells new)).files image → Denotes (as_left image) (last_state first s.states).durable
@@ -98,9 +100,9 @@ module _ {D : Type 0} (m : Ghosts D) (first : Broker) (old : D) where
           states = s.states ++ t.states;
           read = read_then lines more s.items t.items s.read s.all t.read;
           all = omega (arith, s.all, t.all, length-append s.items t.items, length-append lines more);
-          run = run_then first s.items t.items s.replies t.replies s.states t.states s.run t.run;
+          run = run_then IsSeen first s.items t.items s.replies t.replies s.states t.states s.run t.run;
           moments = then_run m old mid new _ _ (weaker m old mid _ _ s.moments (between_more first s.replies t.replies s.states t.states (m.tells old))) t.moments
-              (λ c b. between_then first s.replies t.replies s.states t.states (m.tells old) (m.tells mid) c b honest (run_lengths first s.items s.replies s.states s.run).0 s.told s.stays);
+              (λ c b. between_then first s.replies t.replies s.states t.states (m.tells old) (m.tells mid) c b honest (run_lengths IsSeen first s.items s.replies s.states s.run).0 s.told s.stays);
           told = t.told ∙ (ap (λ (b : List ℕ). b ++ reply_bytes t.replies) s.told ∙ (append_assoc (account (m.tells old)).told (reply_bytes s.replies) (reply_bytes t.replies)
               ∙ ap (λ (b : List ℕ). (account (m.tells old)).told ++ b) (sym (reply_bytes-append s.replies t.replies))));
           stands = subst (λ (b : Broker). StandsAt next b (m.tells new)) (sym (last_state-append first s.states t.states)) t.stands;
@@ -114,9 +116,9 @@ module _ {D : Type 0} (m : Ghosts D) (first : Broker) (old : D) where
       replies = s.replies ++ t.replies;
       states = s.states ++ t.states;
       read = read_then lines more s.items t.items s.read s.all t.read;
-      run = run_then first s.items t.items s.replies t.replies s.states t.states s.run (subst (λ (b : Broker). Run b t.items t.replies t.states) s.stands.stands t.run);
+      run = run_then IsSeen first s.items t.items s.replies t.replies s.states t.states s.run (subst (λ (b : Broker). Run IsSeen b t.items t.replies t.states) s.stands.stands t.run);
       moments = then_run m old mid new _ _ (weaker m old mid _ _ s.moments (between_more first s.replies t.replies s.states t.states (m.tells old))) t.moments
-          (λ c b left. between_then first s.replies t.replies s.states t.states (m.tells old) (m.tells mid) c b honest (run_lengths first s.items s.replies s.states s.run).0 s.told s.stays
+          (λ c b left. between_then first s.replies t.replies s.states t.states (m.tells old) (m.tells mid) c b honest (run_lengths IsSeen first s.items s.replies s.states s.run).0 s.told s.stays
           (subst (λ (x : Broker). LeavesBetween x t.replies t.states (m.tells mid) c b) s.stands.stands left));
       kept = t.kept;
       n = length s.replies + t.n;

@@ -3,12 +3,12 @@ use Rattle.std.proofs.Common.{zero, suc, ◌≡◌, inl, inr, ⊎_elim, ℕ, Lis
 use Rattle.std.proofs.lemmas.List.{append-nil, take_all}
 use Rattle.std.specs.Option.{option_map}
 use Rattle.std.specs.FinMap.{FinMap, get}
+use Rattle.pg_recover.specs.Viewing.{IsSeen}
 use Rattle.pg_disk.specs.declared.disk.Disk.{Ghosts}
 use Rattle.pg_disk.specs.declared.fault.Fault.{Fault}
 use Rattle.pg_disk.specs.declared.fault.Fault.TheVariants as fault
 use Rattle.pg_disk.specs.declared.file_id.FileId.{FileId}
 use Rattle.pg_disk.specs.declared.fault.SiteFault.TheVariants as site
-use Rattle.pg_disk.specs.Counts.{FaultCounts}
 use Rattle.pg_disk.specs.Account.{FileState, Account, account, IsSound, IsHonest, AllQuiet}
 use Rattle.pg_disk.specs.Files.{file_cmp, Files}
 use Rattle.pg_disk.specs.Image.{AnyFile, IsLeftAt, IsImage, OnceQuiet}
@@ -26,10 +26,11 @@ use Rattle.pg_text.specs.Spelling.{ReadAs}
 use Rattle.pg_text.proofs.ReadingLemmas.{read_more}
 use Rattle.pg_text.specs.Replies.{reply_line, reply_bytes, BeginsNext}
 use Rattle.pg_engine.specs.declared.engine.Engine.{Engine}
-use Rattle.pg_disk.specs.Views.{Contents, as_left, as_read, bytes_of}
-use Rattle.pg_recover.specs.Broker.{Durable, Broker, opened_from, last_state}
+use Rattle.pg_disk.specs.Views.{Contents, as_read, bytes_of}
+use Rattle.pg_model.specs.Broker.{Durable, Broker, opened_from}
+use Rattle.pg_model.specs.Steps.{last_state}
 use Rattle.pg_recover.specs.Denotation.{Denotes, durable_part}
-use Rattle.pg_recover.specs.Recovered.{AreIllFormed, AreKept, HasNoEpoch, IsSpentAt, OpensFiles}
+use Rattle.pg_recover.specs.Recovered.{AreIllFormed, AreKept, IsSpentAt, OpensFiles}
 use Rattle.pg_recover.specs.WellFormed.{WellFormed}
 use Rattle.pg_engine.specs.Executed.{state_of}
 use Rattle.pg_engine.specs.Opened.{LeavesEpoch, OpensAt}
@@ -266,7 +267,7 @@ input_served m limits input old new ran honest durable denoted bytes is =
     let s = ran.serves durable honest denoted in
     let e = ran.ends durable honest denoted in
     let all = e.all (inl refl) in
-    let sizes = run_lengths (opened_from limits.ids durable) s.items s.replies s.states s.run in
+    let sizes = run_lengths IsSeen (opened_from limits.ids durable) s.items s.replies s.states s.run in
     let to_end = reading.to_end refl in (
       end,
       record {

@@ -1,12 +1,10 @@
 -- What answering one line does.
-use Rattle.std.specs.Prelude.{◌≡◌, ℕ, List, [], ◌∷◌, Option, Result, MatchResult}
+use Rattle.std.specs.Prelude.{◌≡◌, ℕ, List, [], ◌∷◌, Result, MatchResult}
 use Rattle.pg_disk.specs.declared.disk.Disk.{Ghosts}
 use Rattle.pg_disk.specs.declared.fault.SiteFault.{SiteFault}
 use Rattle.pg_disk.specs.declared.fault.SiteFault.TheVariants.{Disk, Sink}
-use Rattle.pg_disk.specs.Account.{Account}
-use Rattle.pg_disk.specs.Files.{Files}
 use Rattle.pg_engine.specs.declared.engine.Engine.{Engine}
-use Rattle.pg_recover.specs.Broker.{Broker}
+use Rattle.pg_model.specs.Broker.{Broker}
 use Rattle.pg_engine.specs.Executed.{IsDamaged}
 use Rattle.pg_run.specs.Served.{LeavesBetween, Serves, ServesAll}
 

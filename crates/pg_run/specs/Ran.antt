@@ -16,10 +16,12 @@ use Rattle.pg_lines.specs.Lines.{IsCut, lines_of}
 use Rattle.pg_lines.specs.Reading.{IsAtEnd}
 use Rattle.pg_text.specs.Spelling.{ReadsAs, ReadAs}
 use Rattle.pg_text.specs.Replies.{reply_bytes}
-use Rattle.pg_recover.specs.Broker.{Broker, Durable, Run, last_state, opened_from}
+use Rattle.pg_model.specs.Broker.{Broker, Durable, opened_from}
+use Rattle.pg_model.specs.Steps.{Run, last_state}
 use Rattle.pg_recover.specs.Denotation.{Denotes}
 use Rattle.pg_recover.specs.Recovered.{HasNoEpoch, KeepsFiles}
 use Rattle.pg_recover.specs.Staying.{StaysWell}
+use Rattle.pg_recover.specs.Viewing.{IsSeen}
 use Rattle.pg_recover.specs.WellFormed.{WellFormed}
 use Rattle.pg_engine.specs.declared.engine.Engine.{Engine}
 use Rattle.pg_engine.specs.Executed.{StandsAt, MeetsLimit}
@@ -85,7 +87,7 @@ pub record ComesToLimit {D : Type 0} (m : Ghosts D) (first : Broker) (lines : Li
   pub replies : List Reply
   pub states : List Broker
   pub read : ReadAs lines items
-  pub run : Run first items replies states
+  pub run : Run IsSeen first items replies states
   pub full : IsFullBehind m (last_state first states) (drop (length items) lines) new
 
 -- A run that served all its items stopped at such a line.
@@ -139,7 +141,7 @@ pub record ServesInput (first : Broker) (input : List ℕ) (old new : Account) :
   pub states : List Broker
   pub read : ReadAs (lines_of whole behind) items
   pub all : length items ≡ length (lines_of whole behind)
-  pub run : Run first items replies states
+  pub run : Run IsSeen first items replies states
   pub told : new.told ≡ old.told ++ reply_bytes replies
   pub denoted : Denotes (as_left (reads new.files)) (last_state first states).durable
 

@@ -11,9 +11,11 @@ use Rattle.pg_text.specs.Spelling.{ReadAs}
 use Rattle.pg_text.specs.Replies.{reply_bytes, BeginsNext}
 use Rattle.pg_disk.specs.Views.{as_left, as_read}
 use Rattle.pg_engine.specs.declared.engine.Engine.{Engine}
-use Rattle.pg_recover.specs.Broker.{Durable, Broker, Run, last_state}
+use Rattle.pg_model.specs.Broker.{Durable, Broker}
+use Rattle.pg_model.specs.Steps.{Run, last_state}
 use Rattle.pg_recover.specs.Denotation.{Denotes}
 use Rattle.pg_recover.specs.Staying.{LeavesWell, StaysWell}
+use Rattle.pg_recover.specs.Viewing.{IsSeen}
 use Rattle.pg_recover.specs.WellFormed.{WellFormed}
 use Rattle.pg_engine.specs.Executed.{StandsAt}
 
@@ -66,7 +68,7 @@ pub record Serves {D : Type 0} (leaving : Broker → List Reply → List Broker 
   pub replies : List Reply
   pub states : List Broker
   pub read : ReadAs lines items
-  pub run : Run first items replies states
+  pub run : Run IsSeen first items replies states
   pub moments : Within m old new (leaving first replies states)
   pub kept : IsHonest (m.tells new)
   pub n : ℕ
@@ -83,7 +85,7 @@ pub record ServesAll {D : Type 0} (m : Ghosts D) (first : Broker) (lines : List 
   pub states : List Broker
   pub read : ReadAs lines items
   pub all : length items ≡ length lines
-  pub run : Run first items replies states
+  pub run : Run IsSeen first items replies states
   pub moments : Within m old new (LeavesBetween first replies states)
   pub told : (account (m.tells new)).told ≡ (account (m.tells old)).told ++ reply_bytes replies
   pub stands : StandsAt engine (last_state first states) (m.tells new)

@@ -7,7 +7,6 @@ ghost use Rattle.pg_disk.specs.Counts.{CountsFault, CountsSiteFault};
 ghost use Rattle.pg_disk.specs.Image.{LeavesPrefix};
 ghost use Rattle.pg_disk.specs.Moments.{Within};
 ghost use Rattle.pg_msg.specs.declared.command.Command.{Command};
-ghost use Rattle.pg_msg.specs.Replies.{IsBuilt};
 ghost use Rattle.pg_text.specs.Spelling.{ReadsAs};
 ghost use Rattle.pg_engine.specs.Executed.{Owns, Executes, MeetsLimit, state_of};
 ghost use Rattle.pg_engine.specs.Executed.{IsDamaged};
@@ -36,7 +35,7 @@ pub fn answer<S: Site>(
     ensures cause { CountsSiteFault (S.faults site.old) (S.faults site.new) result }
 {
     let (engine, reply) = exec_line(alloc, engine, site, line)?;
-    let text = render(alloc, reply)?;
+    let text = render(alloc, &reply)?;
     tell(site, text.as_slice())?;
     Ok(engine)
 }
@@ -53,7 +52,6 @@ fn exec_line<D: Disk>(
     ensures executes { IsHonest (D.tells disk.old) → (IsErr result × (disk.new ≡ disk.old))
         ⊎ ((item : Option Command) × ReadsAs line.now item
         × Executes D.Disk (state_of engine) item disk.old disk.new result) }
-    ensures built { IfOk result (λ done. IsBuilt done.1) }
     ensures back { IsHonest (D.tells disk.new) → IsHonest (D.tells disk.old) }
     ensures never_damaged { IfErr result (λ fault. IsDamaged fault → ⊥) }
     ensures untouched { IsErrOf result Fault.Spent → disk.new ≡ disk.old }

@@ -3,7 +3,7 @@ ghost use Rattle.std.specs.Prelude.{◌≡◌, ◌≢◌, ◌⊎◌, ◌↔◌, 
 ghost use Rattle.pg_disk.specs.Sites.{Steps};
 ghost use Rattle.pg_disk.specs.Account.{account, IsHonest};
 ghost use Rattle.pg_disk.specs.Views.{as_read};
-ghost use Rattle.pg_recover.specs.Broker.{Durable};
+ghost use Rattle.pg_model.specs.Broker.{Durable};
 ghost use Rattle.pg_recover.specs.Denotation.{Denotes};
 ghost use Rattle.pg_recover.specs.Recovered.{AreIllFormed, HasNoEpoch, KeepsFiles};
 ghost use Rattle.pg_recover.specs.WellFormed.{WellFormed};

@@ -5,7 +5,7 @@ use std::alloc::{AllocError, Global};
 use std::test::Fail;
 
 /// What a script is about, the script, and the replies to it.
-const SCRIPTS: [(&str, &[u8], &[u8]); 6] = [
+const SCRIPTS: [(&str, &[u8], &[u8]); 11] = [
     ("empty input", b"", b""),
     (
         "a name twice",
@@ -21,6 +21,31 @@ const SCRIPTS: [(&str, &[u8], &[u8]); 6] = [
         "a last line without its end",
         b"receive\naddress A max 0 page 1 ahead 0 dup 0",
         b"no line\nok\n",
+    ),
+    (
+        "a body in digits",
+        b"address A max 50 page 100 ahead 0 dup 0\nqueue Q on A\nsend A hex 6F6f\nsend A body oo\ncount Q\n",
+        b"ok\nok\nsent 1-1\nsent 1-2\ncount 2\n",
+    ),
+    (
+        "commands that aren't built",
+        b"address A max 50 page 100 ahead 0 dup 0\nqueue Q on A where x\nsend A id 61 body x\nsend A tx T body x\nbegin T\nstat A\nreceive C\n",
+        b"ok\nno line\nno line\nno line\nno line\nno line\nno line\n",
+    ),
+    (
+        "properties",
+        b"address A max 1000 page 100 ahead 0 dup 0\nqueue Q on A\nsend A prop k -1 body x\nsend A hex -\nsend A prop k 1 prop k 2 body x\ncount Q\n",
+        b"ok\nok\nsent 1-1\nsent 1-2\nno line\ncount 2\n",
+    ),
+    (
+        "dropped queues",
+        b"address A max 1000 page 100 ahead 0 dup 0\nqueue Q on A\nqueue R on A\nsend A body x\ndrop Q\ndrop Q\ncount Q\ncount R\nqueue Q on A\ncount Q\nsend A body y\ncount Q\ndrop R\ndrop Q\nsend A body z\n",
+        b"ok\nok\nok\nsent 1-1\nok\nno queue\nno queue\ncount 1\nok\ncount 0\nsent 1-2\ncount 1\nok\nok\nunrouted\n",
+    ),
+    (
+        "room that a dropped queue leaves",
+        b"address A max 16 page 100 ahead 0 dup 0\nqueue Q on A\nsend A body x\nsend A body y\ndrop Q\nqueue R on A\nsend A body z\n",
+        b"ok\nok\nsent 1-1\nno line\nok\nok\nsent 1-2\n",
     ),
     (
         "a cut line",
@@ -180,7 +205,7 @@ const TWO_IDS: Limits = Limits {
 fn an_epoch_has_so_many_ids(rt: HostRuntime) -> Result<(), Fail> {
     let script =
         b"address A max 1000 page 1 ahead 0 dup 0\nsend A body x\nqueue Q on A\nsend A body x\nsend A body x\nsend A body x\ncount Q\n";
-    let replies = b"ok\nunrouted\nok\nsent 1-1\nsent 1-2\nno line\ncount 2\n";
+    let replies = b"ok\nunrouted\nok\nsent 1-1\nsent 1-2\nno ids\ncount 2\n";
     assert!(rt; ends(rt.alloc(), &TWO_IDS, script, 0, replies)?);
     Ok(())
 }
@@ -202,7 +227,7 @@ fn address_replies(alloc: Global) -> Result<Vec<u8>, AllocError> {
     for _ in 0..1000 {
         replies.extend_from_slice(b"ok\n")?;
     }
-    replies.extend_from_slice(b"no line\nno name\n")?;
+    replies.extend_from_slice(b"no room\nno name\n")?;
     Ok(replies)
 }
 
@@ -211,5 +236,37 @@ fn a_further_address_than_there_may_be_is_refused(rt: HostRuntime) -> Result<(),
     let script = address_lines(rt.alloc())?;
     let replies = address_replies(rt.alloc())?;
     assert!(rt; answers_first(rt.alloc(), script.as_slice(), replies.as_slice())?);
+    Ok(())
+}
+
+/// A script that makes an address and a queue and sends a body of so many bytes, which weighs 15 bytes more.
+fn heavy_script(alloc: Global, length: usize) -> Result<Vec<u8>, AllocError> {
+    let mut script = Vec::new(alloc);
+    script.extend_from_slice(b"address A max 1 page 1 ahead 0 dup 0\nqueue Q on A\nsend A body ")?;
+    script.extend_from_slice(vec![in alloc; b'b'; length]?.as_slice())?;
+    script.extend_from_slice(b"\n")?;
+    Ok(script)
+}
+
+/// Lengths of bodies, and the replies to them. A message weighs less than 102,400 bytes.
+const HEAVY: [(usize, &[u8]); 2] = [
+    (102_384, b"ok\nok\nsent 1-1\n"),
+    (102_385, b"ok\nok\nno size\n"),
+];
+
+/// The first length that is answered otherwise.
+fn wrong_length(alloc: Global) -> Result<Option<usize>, AllocError> {
+    for (length, replies) in HEAVY {
+        let script = heavy_script(alloc, length)?;
+        if !answers_first(alloc, script.as_slice(), replies)? {
+            return Ok(Some(length));
+        }
+    }
+    Ok(None)
+}
+
+#[test]
+fn a_message_is_lighter_than_its_limit(rt: HostRuntime) -> Result<(), Fail> {
+    assert!(rt; wrong_length(rt.alloc())?.is_none());
     Ok(())
 }

@@ -6,6 +6,7 @@ use Rattle.pg_disk.specs.Account.{account, IsQuietAt}
 use Rattle.pg_disk.specs.Image.{IsFileThere}
 use Rattle.pg_gate.proofs.Reading.{one_read}
 use Rattle.pg_disk.specs.Views.{as_read}
+use Rattle.pg_recover.specs.Viewing.{ArePaged}
 use Rattle.pg_recover.specs.WellFormed.{IsGapless, IsNamed, IsThere, WellFormed}
 use Rattle.pg_recover.proofs.DamagingLemmas.{all_ill}
 use Rattle.pg_recover.proofs.OpenedLemmas.{opens_then}
@@ -98,3 +99,8 @@ pub returns-clause-well : goal.returns-clause-well
 returns-clause-well g c =
     all_seen (g.D.Disk.tells c.args.disk.now) (g.D.Disk.tells c.list.new.self) (g.D.Disk.tells c.sync_all.new.disk) c.list.ensures.same c.sync_all.ensures.stays c.open_synced.result
     (λ contents parts. WellFormed contents → WellFormed (as_read (account (g.D.Disk.tells c.open_synced.new.disk)).files)) c.open_synced.ensures.well
+
+pub returns-clause-paged : goal.returns-clause-paged
+returns-clause-paged g c =
+    all_seen (g.D.Disk.tells c.args.disk.now) (g.D.Disk.tells c.list.new.self) (g.D.Disk.tells c.sync_all.new.disk) c.list.ensures.same c.sync_all.ensures.stays c.open_synced.result
+    (λ contents parts. ArePaged contents parts.durable.addresses parts.paged.items) c.open_synced.ensures.paged

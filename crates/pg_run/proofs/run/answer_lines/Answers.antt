@@ -1,7 +1,6 @@
 use Rattle.std.proofs.Common.{ℕ, List, [], ◌∷◌, Bool, Some, Err, refl, ap, subst, ◌∙◌}
 use Rattle.pg_disk.specs.declared.fault.Fault.TheVariants.{Memory}
 use Rattle.pg_disk.specs.declared.fault.SiteFault.TheVariants.{Disk}
-use Rattle.pg_disk.specs.Account.{IsHonest}
 use Rattle.pg_msg.specs.declared.command.Command.{Command}
 use Rattle.pg_lines.specs.Reading.{TookLine}
 use Rattle.pg_text.specs.Spelling.{ReadsAs}

@@ -1,71 +1,103 @@
-use Rattle.std.proofs.Common.{◌≡◌, ◌≢◌, ℕ, ◌^◌, ◌∙◌, ◌<◌, List, [], length, map, All, Some, None, ap, sym, subst, arith}
+use Rattle.std.proofs.Common.{◌≢◌, Some, ℕ, ◌^◌, ◌∙◌, ◌<◌, List, [], length, All, ap, sym, subst, arith}
 use Rattle.std.proofs.lemmas.Bool.{both_ways}
-use Rattle.pg_msg.specs.declared.reply.Refusal.TheVariants.{Address, Line}
-use Rattle.pg_msg.specs.declared.reply.Reply.TheVariants.{No, Unrouted}
-use Rattle.pg_recover.specs.Broker.{sending}
-use Rattle.pg_engine.specs.declared.state.Outcome.TheVariants.{Unchanged}
-use Rattle.pg_engine.specs.Kept.{Kept, HasRoom, name_of_row, names_in}
-use Rattle.pg_engine.specs.Names.{IsId, RouteNames, address_named, queue_ids_at}
+use Rattle.pg_msg.specs.declared.message.Message.{Message}
+use Rattle.pg_msg.specs.declared.message.MessageId.{MessageId}
+use Rattle.pg_msg.specs.Messages.{HasFields, weight_of}
+use Rattle.pg_model.specs.Actions.{Send}
+use Rattle.pg_model.specs.Changes.{message_of, next_id}
+use Rattle.pg_model.specs.Refusals.{routed}
+use Rattle.pg_engine.specs.Kept.{Kept, broker_of}
 use Rattle.pg_engine.specs.Outcomes.{IsOutcome}
-use Rattle.pg_engine.proofs.EntryLemmas.{known_id, none_in, some_in}
-use Rattle.pg_engine.proofs.FitLemmas.{row, row_there, row_id}
-use Rattle.pg_engine.proofs.StepLemmas.{send_nowhere, send_unrouted, send_spent, send_full}
+use Rattle.pg_engine.proofs.LookupLemmas.{address_id_within}
+use Rattle.pg_engine.proofs.StepLemmas.{none_in, send_heavy, send_nowhere, send_numberless, send_paged, send_unrouted, sent_at, some_in}
+use Rattle.pg_engine.proofs.WeightLemmas.{body_within, room_left, weight_any}
 use Rattle.pg_engine.proofs.state.State.send.Goals as goal
-use Rattle.pg_engine.proofs.state.State.send.Goals.{then-self-via-then-self, then-self-via-else-self+then-not-has_room}
 
 pub returns-in_default-clause-outcome : goal.returns-in_default-clause-outcome
 returns-in_default-clause-outcome c =
-    let d = c.self.inside.durable in
-    let s : Kept = record { durable = d; drawn = c.self.inside.drawn; ids = c.self.inside.ids } in
-    let none : address_named (names_in d) c.args.address ≡ None = ap (λ (n : RouteNames). address_named n c.args.address) (sym c.self.invariant.named) ∙ sym c.address_id.ensures ∙ c.in_default.is in
-    subst (λ o. IsOutcome c.args.self (sending c.args.address c.args.body) o) (sym c.unchanged.ensures)
-    (subst (λ (k : Kept). IsOutcome k (sending c.args.address c.args.body) (Unchanged k (No Address))) c.self.view_is (send_nowhere s c.args.address c.args.body none))
+    subst (λ o. IsOutcome c.args.self (Some (Send c.args.address c.args.properties c.args.body)) o) (sym c.refused.ensures) (send_nowhere c.args.self c.args.address c.args.properties c.args.body (sym c.address_id.ensures ∙ c.in_default.is))
+
+pub returns-then-as_slice-ge-WEIGHT_LIMIT-clause-outcome : goal.returns-then-as_slice-ge-WEIGHT_LIMIT-clause-outcome
+returns-then-as_slice-ge-WEIGHT_LIMIT-clause-outcome c =
+    let more = body_within (next_id (broker_of c.args.self)) c.args.properties c.args.body in
+    subst (λ o. IsOutcome c.args.self (Some (Send c.args.address c.args.properties c.args.body)) o) (sym c.refused-then-as_slice-ge-WEIGHT_LIMIT.ensures)
+    (send_heavy c.args.self c.args.address c.args.properties c.args.body c.in-Some.id (sym c.address_id.ensures ∙ c.in-Some.is)
+    (omega (arith, more, c.if-as_slice-ge-WEIGHT_LIMIT.true, ap (λ (l : List ℕ). length l) c.as_slice.ensures.value)))
+
+pub weight-requires : goal.weight-requires
+weight-requires c =
+    subst HasFields (sym c.plain_message-message.ensures)
+    (record { id = c.next_id.ensures.fields; dup = tt; properties = c.requires; body = omega (arith, c.if-as_slice-ge-WEIGHT_LIMIT.false, ap (λ (l : List ℕ). length l) c.as_slice.ensures.value) })
+
+pub returns-then-weight-ge-WEIGHT_LIMIT-clause-outcome : goal.returns-then-weight-ge-WEIGHT_LIMIT-clause-outcome
+returns-then-weight-ge-WEIGHT_LIMIT-clause-outcome c =
+    let same = weight_any c.next_id.result (next_id (broker_of c.args.self)) c.args.properties c.args.body in
+    subst (λ o. IsOutcome c.args.self (Some (Send c.args.address c.args.properties c.args.body)) o) (sym c.refused-then-weight-ge-WEIGHT_LIMIT.ensures)
+    (send_heavy c.args.self c.args.address c.args.properties c.args.body c.in-Some.id (sym c.address_id.ensures ∙ c.in-Some.is)
+    (omega (arith, same, c.if-weight-ge-WEIGHT_LIMIT.true, c.weight.ensures, ap weight_of c.plain_message-message.ensures)))
 
 pub returns-then-is_empty-clause-outcome : goal.returns-then-is_empty-clause-outcome
 returns-then-is_empty-clause-outcome c =
-    let d = c.self.inside.durable in
-    let s : Kept = record { durable = d; drawn = c.self.inside.drawn; ids = c.self.inside.ids } in
-    let found : address_named (names_in d) c.args.address ≡ Some c.in-Some.address = ap (λ (n : RouteNames). address_named n c.args.address) (sym c.self.invariant.named) ∙ sym c.address_id.ensures ∙ c.in-Some.is in
-    let known = known_id d c.args.address c.in-Some.address found in
-    let at = row d c.self.inside.routes c.self.inside.weights.items c.self.inside.drawn c.in-Some.address c.self.invariant known in
-    let there = row_there d c.self.inside.routes c.self.inside.weights.items c.self.inside.drawn c.in-Some.address c.self.invariant known in
-    let number = row_id d c.self.inside.routes c.self.inside.weights.items c.self.inside.drawn c.in-Some.address c.self.invariant known in
-    let numbers : c.numbers-numbers.result.now ≡ queue_ids_at c.in-Some.address (map name_of_row d.queues) = c.numbers-numbers.ensures ∙ ap (λ (n : RouteNames). queue_ids_at c.in-Some.address n.queues) c.self.invariant.named in
-    let none : [] ≡ queue_ids_at c.in-Some.address (map name_of_row d.queues) = sym (none_in c.numbers-numbers.result.now (sym c.is_empty.ensures ∙ c.if-is_empty.true)) ∙ numbers in
-    subst (λ o. IsOutcome c.args.self (sending c.args.address c.args.body) o) (sym c.unchanged-then-is_empty.ensures)
-    (subst (λ (k : Kept). IsOutcome k (sending c.args.address c.args.body) (Unchanged k Unrouted)) c.self.view_is
-    (send_unrouted s c.args.address c.args.body c.in-Some.address found c.self.invariant.sound at there number none))
-
-pub has_room-requires : goal.has_room-requires
-has_room-requires c =
-    let found : address_named (names_in c.self.inside.durable) c.args.address ≡ Some c.in-Some.address = ap (λ (n : RouteNames). address_named n c.args.address) (sym c.self.invariant.named) ∙ sym c.address_id.ensures ∙ c.in-Some.is in
-    subst (λ (k : Kept). IsId (length k.durable.addresses) c.in-Some.address) c.self.view_is (known_id c.self.inside.durable c.args.address c.in-Some.address found)
+    let same = weight_any c.next_id.result (next_id (broker_of c.args.self)) c.args.properties c.args.body in
+    subst (λ o. IsOutcome c.args.self (Some (Send c.args.address c.args.properties c.args.body)) o) (sym c.unchanged.ensures)
+    (send_unrouted c.args.self c.args.address c.args.properties c.args.body c.in-Some.id (sym c.address_id.ensures ∙ c.in-Some.is)
+    (λ heavy. omega (arith, heavy, same, c.if-weight-ge-WEIGHT_LIMIT.false, c.weight.ensures, ap weight_of c.plain_message-message.ensures))
+    (sym (none_in c.routed-numbers.result.now (sym c.is_empty.ensures ∙ c.if-is_empty.true)) ∙ c.routed-numbers.ensures))
 
 pub returns-then-self-clause-outcome : goal.returns-then-self-clause-outcome
 returns-then-self-clause-outcome c =
-    let d = c.self.inside.durable in
-    let s : Kept = record { durable = d; drawn = c.self.inside.drawn; ids = c.self.inside.ids } in
-    let found : address_named (names_in d) c.args.address ≡ Some c.in-Some.address = ap (λ (n : RouteNames). address_named n c.args.address) (sym c.self.invariant.named) ∙ sym c.address_id.ensures ∙ c.in-Some.is in
-    let known = known_id d c.args.address c.in-Some.address found in
-    let at = row d c.self.inside.routes c.self.inside.weights.items c.self.inside.drawn c.in-Some.address c.self.invariant known in
-    let there = row_there d c.self.inside.routes c.self.inside.weights.items c.self.inside.drawn c.in-Some.address c.self.invariant known in
-    let number = row_id d c.self.inside.routes c.self.inside.weights.items c.self.inside.drawn c.in-Some.address c.self.invariant known in
-    let numbers : c.numbers-numbers.result.now ≡ queue_ids_at c.in-Some.address (map name_of_row d.queues) = c.numbers-numbers.ensures ∙ ap (λ (n : RouteNames). queue_ids_at c.in-Some.address n.queues) c.self.invariant.named in
-    let some : c.numbers-numbers.result.now ≢ [] = some_in c.numbers-numbers.result.now (sym c.is_empty.ensures ∙ c.if-is_empty.false) in
-    subst (λ o. IsOutcome c.args.self (sending c.args.address c.args.body) o) (sym c.unchanged-then-self.ensures)
-    (subst (λ (k : Kept). IsOutcome k (sending c.args.address c.args.body) (Unchanged k (No Line))) c.self.view_is
-    (elim c.then-self.branch [
-      | then-self-via-then-self w ↦
-          send_spent s c.args.address c.args.body c.in-Some.address found c.self.invariant.sound at there number c.numbers-numbers.result.now numbers some (omega (arith, w.if-self.true))
-      | then-self-via-else-self+then-not-has_room w ↦
-          send_full s c.args.address c.args.body c.in-Some.address found c.self.invariant.sound at there number c.numbers-numbers.result.now numbers some (omega (arith, w.if-self.false))
-          (λ room. both_ways w.has_room.result w.if-not-has_room.true (w.has_room.ensures.1 (subst (λ (k : Kept). HasRoom k.durable c.in-Some.address) c.self.view_is room)))
-    ]))
+    let same = weight_any c.next_id.result (next_id (broker_of c.args.self)) c.args.properties c.args.body in
+    let some : routed (broker_of c.args.self) c.in-Some.id ≢ [] = subst (λ (l : List ℕ). l ≢ []) c.routed-numbers.ensures (some_in c.routed-numbers.result.now (sym c.is_empty.ensures ∙ c.if-is_empty.false)) in
+    subst (λ o. IsOutcome c.args.self (Some (Send c.args.address c.args.properties c.args.body)) o) (sym c.refused-then-self.ensures)
+    (send_numberless c.args.self c.args.address c.args.properties c.args.body c.in-Some.id (sym c.address_id.ensures ∙ c.in-Some.is)
+    (λ heavy. omega (arith, heavy, same, c.if-weight-ge-WEIGHT_LIMIT.false, c.weight.ensures, ap weight_of c.plain_message-message.ensures)) some
+    (omega (arith, c.if-self.true, ap (λ (k : Kept). k.drawn) c.self.view_is, ap (λ (k : Kept). k.ids) c.self.view_is)))
+
+pub returns-then-would_page-clause-outcome : goal.returns-then-would_page-clause-outcome
+returns-then-would_page-clause-outcome c =
+    let same = weight_any c.next_id.result (next_id (broker_of c.args.self)) c.args.properties c.args.body in
+    let some : routed (broker_of c.args.self) c.in-Some.id ≢ [] = subst (λ (l : List ℕ). l ≢ []) c.routed-numbers.ensures (some_in c.routed-numbers.result.now (sym c.is_empty.ensures ∙ c.if-is_empty.false)) in
+    subst (λ o. IsOutcome c.args.self (Some (Send c.args.address c.args.properties c.args.body)) o) (sym c.refused-then-would_page.ensures)
+    (send_paged c.args.self c.args.address c.args.properties c.args.body c.in-Some.id (sym c.address_id.ensures ∙ c.in-Some.is)
+    (λ heavy. omega (arith, heavy, same, c.if-weight-ge-WEIGHT_LIMIT.false, c.weight.ensures, ap weight_of c.plain_message-message.ensures))
+    (omega (arith, c.if-self.false, ap (λ (k : Kept). k.drawn) c.self.view_is, ap (λ (k : Kept). k.ids) c.self.view_is)) some (c.would_page.ensures.0 c.if-would_page.true))
+
+pub would_page-requires : goal.would_page-requires
+would_page-requires c = address_id_within c.args.address c.args.self.durable.addresses c.in-Some.id (sym c.address_id.ensures ∙ c.in-Some.is)
 
 pub hold-requires-clause-known : goal.hold-requires-clause-known
-hold-requires-clause-known c =
-    let found : address_named (names_in c.self.inside.durable) c.args.address ≡ Some c.in-Some.address = ap (λ (n : RouteNames). address_named n c.args.address) (sym c.self.invariant.named) ∙ sym c.address_id.ensures ∙ c.in-Some.is in
-    subst (λ (k : Kept). IsId (length k.durable.addresses) c.in-Some.address) c.self.view_is (known_id c.self.inside.durable c.args.address c.in-Some.address found)
+hold-requires-clause-known c = address_id_within c.args.address c.args.self.durable.addresses c.in-Some.id (sym c.address_id.ensures ∙ c.in-Some.is)
+
+pub hold-requires-clause-routed : goal.hold-requires-clause-routed
+hold-requires-clause-routed c = c.in_ok-queues.ensures.same ∙ c.routed-numbers.ensures
+
+pub hold-requires-clause-some : goal.hold-requires-clause-some
+hold-requires-clause-some c = subst (λ (l : List ℕ). l ≢ []) (sym c.in_ok-queues.ensures.same) (some_in c.routed-numbers.result.now (sym c.is_empty.ensures ∙ c.if-is_empty.false))
 
 pub hold-requires-clause-in_range : goal.hold-requires-clause-in_range
 hold-requires-clause-in_range c = subst (λ (l : List ℕ). All (λ (n : ℕ). n < 2 ^ 32) l) (sym c.in_ok-queues.ensures.same) c.queue_ids.ensures.in_range
+
+pub hold-requires-clause-message : goal.hold-requires-clause-message
+hold-requires-clause-message c = record {
+  fields = subst HasFields (sym c.plain_message-message.ensures)
+      (record { id = c.next_id.ensures.fields; dup = tt; properties = c.requires; body = omega (arith, c.if-as_slice-ge-WEIGHT_LIMIT.false, ap (λ (l : List ℕ). length l) c.as_slice.ensures.value) });
+  light = omega (arith, c.if-weight-ge-WEIGHT_LIMIT.false, c.weight.ensures);
+}
+
+pub hold-requires-clause-next : goal.hold-requires-clause-next
+hold-requires-clause-next c =
+    ap (λ (x : Message). x.id) c.plain_message-message.ensures
+    ∙ c.next_id.ensures.next (omega (arith, c.if-self.false, ap (λ (k : Kept). k.drawn) c.self.view_is, ap (λ (k : Kept). k.ids) c.self.view_is))
+
+pub hold-requires-clause-left : goal.hold-requires-clause-left
+hold-requires-clause-left c = omega (arith, c.if-self.false, ap (λ (k : Kept). k.drawn) c.self.view_is, ap (λ (k : Kept). k.ids) c.self.view_is)
+
+pub hold-requires-clause-room : goal.hold-requires-clause-room
+hold-requires-clause-room c = room_left c.args.self c.in-Some.id (λ paged. both_ways c.would_page.result c.if-would_page.false (c.would_page.ensures.1 paged))
+
+pub returns-clause-outcome : goal.returns-clause-outcome
+returns-clause-outcome c =
+    let next = c.next_id.ensures.next (omega (arith, c.if-self.false, ap (λ (k : Kept). k.drawn) c.self.view_is, ap (λ (k : Kept). k.ids) c.self.view_is)) in
+    sent_at c.args.self c.plain_message-message.result c.in-Some.id c.hold.result c.hold.ensures.outcome c.args.address c.args.properties c.args.body (sym c.address_id.ensures ∙ c.in-Some.is)
+    (c.plain_message-message.ensures ∙ ap (λ (x : MessageId). message_of x c.args.properties c.args.body) next)
+    (λ paged. both_ways c.would_page.result c.if-would_page.false (c.would_page.ensures.1 paged))

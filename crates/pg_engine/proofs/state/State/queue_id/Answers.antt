@@ -1,0 +1,16 @@
+use Rattle.std.proofs.Common.{◌∙◌, ap}
+use Rattle.std.specs.Option.{option_map}
+use Rattle.pg_model.specs.Broker.{Queue, queue_named}
+use Rattle.pg_routes.specs.Names.{RouteNames}
+use Rattle.pg_routes.specs.Names.{queue_named as name_of}
+use Rattle.pg_engine.specs.Kept.{Kept, broker_of}
+use Rattle.pg_engine.proofs.LookupLemmas.{queue_found}
+use Rattle.pg_engine.proofs.state.State.queue_id.Goals as goal
+
+pub returns : goal.returns
+returns c =
+    let d = c.self.inside.durable in
+    c.queue_id.ensures ∙ ap (λ t. name_of t c.self.inside.routes) c.as_str.ensures.value
+    ∙ ap (λ (n : RouteNames). name_of c.args.name.now n) c.self.invariant.named
+    ∙ queue_found c.args.name.now d.journaled d.queues
+    ∙ ap (λ (k : Kept). option_map (λ (q : Queue). q.id) (queue_named (broker_of k).durable.queues c.args.name.now)) c.self.view_is
