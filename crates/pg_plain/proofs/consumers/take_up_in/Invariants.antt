@@ -1,0 +1,8 @@
+use Rattle.std.proofs.Common.{◌≡◌, ◌++◌, map, take, drop}
+use Rattle.pg_model.specs.Changes.{with_id}
+use Rattle.pg_plain.specs.Kept.{with_flight}
+use Rattle.pg_plain.proofs.consumers.take_up_in.Given as goal
+
+abbrev pub invariant-loop-consumer : goal.invariant-loop-consumer
+invariant-loop-consumer l =
+    l.consumers ≡ map (with_flight l.name (with_id l.id)) (take l.consumer-index l.fn.consumers) ++ drop l.consumer-index l.fn.consumers

@@ -1,0 +1,285 @@
+// Scripts: each line with its reply.
+
+use pg_bytes::Octets;
+use pg_msg::QUEUE_ID_LIMIT;
+use pg_plain::{Broker, Plain};
+use pg_text::{parse_line, render};
+use std::alloc::{AllocError, Global};
+use std::test::Fail;
+
+// A line, so many bytes `x` behind it, and its reply.
+type Row = (&'static str, usize, &'static str);
+
+// Two messages of one queue, which are received, canceled and acknowledged, and come again when the consumer is closed.
+const DELIVERIES: [Row; 18] = [
+    ("address A max 1000 page 100 ahead 0 dup 0", 0, "ok\n"),
+    ("queue Q on A", 0, "ok\n"),
+    ("send A prop k -1 body x", 0, "sent 1-1\n"),
+    ("send A hex -", 0, "sent 1-2\n"),
+    ("consumer C on Q", 0, "ok\n"),
+    ("receive C", 0, "msg 1-1 prop k -1 hex 78\n"),
+    ("receive C", 0, "msg 1-2 hex -\n"),
+    ("receive C", 0, "empty\n"),
+    ("cancel C 1-1", 0, "ok\n"),
+    ("receive C", 0, "msg 1-1 prop k -1 hex 78\n"),
+    ("ack C 1-2", 0, "ok\n"),
+    ("ack C 1-2", 0, "no delivery\n"),
+    ("count Q", 0, "count 1\n"),
+    ("close C", 0, "ok\n"),
+    ("count Q", 0, "count 1\n"),
+    ("consumer C on Q", 0, "ok\n"),
+    ("receive C", 0, "msg 1-1 prop k -1 hex 78\n"),
+    ("receive C", 0, "empty\n"),
+];
+
+// Each refusal, and of two that hold the first. `max` is 0: nothing is ever paged here.
+const REFUSALS: [Row; 34] = [
+    ("drop Q", 0, "no queue\n"),
+    ("queue Q on A", 0, "no address\n"),
+    ("count Q", 0, "no queue\n"),
+    ("consumer C on Q", 0, "no queue\n"),
+    ("receive C", 0, "no consumer\n"),
+    ("ack C 1-1", 0, "no consumer\n"),
+    ("cancel C 1-1", 0, "no consumer\n"),
+    ("close C", 0, "no consumer\n"),
+    ("send A body ", 102_400, "no address\n"),
+    ("address A max 0 page 100 ahead 0 dup 0", 0, "ok\n"),
+    ("address A max 1 page 100 ahead 0 dup 0", 0, "no name\n"),
+    ("send A body x", 0, "unrouted\n"),
+    ("send A body ", 102_385, "no size\n"),
+    ("queue Q on A", 0, "ok\n"),
+    ("queue Q on B", 0, "no name\n"),
+    ("send A body ", 102_385, "no size\n"),
+    ("consumer C on Q", 0, "ok\n"),
+    ("consumer C on R", 0, "no name\n"),
+    ("drop Q", 0, "no consumer-open\n"),
+    ("receive C", 0, "empty\n"),
+    ("send A body x", 0, "sent 1-1\n"),
+    ("ack C 1-1", 0, "no delivery\n"),
+    ("cancel C 1-1", 0, "no delivery\n"),
+    ("receive C", 0, "msg 1-1 hex 78\n"),
+    ("ack C 2-1", 0, "no delivery\n"),
+    ("queue R on A where k = 1", 0, "no line\n"),
+    ("send A tx T body x", 0, "no line\n"),
+    ("send A id 0a body x", 0, "no line\n"),
+    ("ack C 1-1 tx T", 0, "no line\n"),
+    ("checkpoint", 0, "no line\n"),
+    ("close C", 0, "ok\n"),
+    ("ack C 1-1", 0, "no consumer\n"),
+    ("drop Q", 0, "ok\n"),
+    ("drop Q", 0, "no queue\n"),
+];
+
+// Queues of two addresses, and two consumers of one queue.
+const SEVERAL: [Row; 28] = [
+    ("address A max 1000 page 100 ahead 0 dup 0", 0, "ok\n"),
+    ("address B max 1000 page 100 ahead 0 dup 0", 0, "ok\n"),
+    ("queue Q on A", 0, "ok\n"),
+    ("queue R on A", 0, "ok\n"),
+    ("queue S on B", 0, "ok\n"),
+    ("send A body a", 0, "sent 1-1\n"),
+    ("send B body b", 0, "sent 1-2\n"),
+    ("send A body c", 0, "sent 1-3\n"),
+    ("consumer C on Q", 0, "ok\n"),
+    ("consumer D on Q", 0, "ok\n"),
+    ("consumer E on R", 0, "ok\n"),
+    ("receive D", 0, "msg 1-1 hex 61\n"),
+    ("receive C", 0, "msg 1-3 hex 63\n"),
+    ("receive E", 0, "msg 1-1 hex 61\n"),
+    ("ack C 1-1", 0, "no delivery\n"),
+    ("ack D 1-1", 0, "ok\n"),
+    ("count Q", 0, "count 1\n"),
+    ("count R", 0, "count 2\n"),
+    ("count S", 0, "count 1\n"),
+    ("close C", 0, "ok\n"),
+    ("receive D", 0, "msg 1-3 hex 63\n"),
+    ("receive E", 0, "msg 1-3 hex 63\n"),
+    ("drop Q", 0, "no consumer-open\n"),
+    ("close D", 0, "ok\n"),
+    ("drop Q", 0, "ok\n"),
+    ("count R", 0, "count 2\n"),
+    ("queue Q on A", 0, "ok\n"),
+    ("count Q", 0, "count 0\n"),
+];
+
+// Where an epoch has two numbers, a third message has none. One that goes nowhere needs none.
+const NUMBERLESS: [Row; 7] = [
+    ("address A max 1000 page 100 ahead 0 dup 0", 0, "ok\n"),
+    ("address B max 1000 page 100 ahead 0 dup 0", 0, "ok\n"),
+    ("queue Q on A", 0, "ok\n"),
+    ("send A body ", 102_384, "sent 1-1\n"),
+    ("send A body x", 0, "sent 1-2\n"),
+    ("send A body x", 0, "no ids\n"),
+    ("send B body x", 0, "unrouted\n"),
+];
+
+// The line with so many bytes behind it.
+fn long_line(alloc: Global, text: &str, more: usize) -> Result<Octets, AllocError> {
+    let mut bytes = Vec::from_slice(alloc, text.as_bytes())?;
+    for _ in 0..more {
+        bytes.push(b'x')?;
+    }
+    Ok(Octets::from_vec(bytes))
+}
+
+// The broker behind the line, and None where the reply is another one.
+fn told(
+    alloc: Global,
+    plain: Plain,
+    line: &[u8],
+    expected: &str,
+) -> Result<Option<Plain>, AllocError> {
+    let Some(command) = parse_line(alloc, line)? else {
+        return Ok(None);
+    };
+    if plain.next_queue() >= QUEUE_ID_LIMIT {
+        return Ok(None);
+    }
+    let (plain, reply) = plain.step(alloc, command)?;
+    let right = render(alloc, &reply)?.as_slice() == expected.as_bytes();
+    Ok(if right { Some(plain) } else { None })
+}
+
+// The broker behind the row's line, and None where the reply is another one than the row's.
+fn stepped(alloc: Global, plain: Plain, row: Row) -> Result<Option<Plain>, AllocError> {
+    let (text, more, expected) = row;
+    let line = long_line(alloc, text, more)?;
+    told(alloc, plain, line.as_slice(), expected)
+}
+
+// The broker with as many addresses as there may be, and None where one isn't made.
+fn with_addresses(alloc: Global, mut plain: Plain) -> Result<Option<Plain>, AllocError> {
+    for number in 0..1_000u32 {
+        let line = format!(in alloc; "address A{number} max 0 page 1 ahead 0 dup 0")?;
+        match told(alloc, plain, line.as_bytes(), "ok\n")? {
+            Some(next) => plain = next,
+            None => return Ok(None),
+        }
+    }
+    Ok(Some(plain))
+}
+
+// The broker with as many queues on one address as it may have, and None where one isn't made.
+fn with_queues(alloc: Global, mut plain: Plain) -> Result<Option<Plain>, AllocError> {
+    for number in 0..1_000u32 {
+        let line = format!(in alloc; "queue Q{number} on A7")?;
+        match told(alloc, plain, line.as_bytes(), "ok\n")? {
+            Some(next) => plain = next,
+            None => return Ok(None),
+        }
+    }
+    Ok(Some(plain))
+}
+
+// What is answered where there is no room for one more, and where there is.
+const FULL: [Row; 5] = [
+    ("address A7 max 0 page 1 ahead 0 dup 0", 0, "no name\n"),
+    ("address B max 0 page 1 ahead 0 dup 0", 0, "no room\n"),
+    ("queue R on A7", 0, "no room\n"),
+    ("queue Q0 on A7", 0, "no name\n"),
+    ("queue R on A8", 0, "ok\n"),
+];
+
+// Whether these are the answers.
+fn is_full(alloc: Global) -> Result<bool, AllocError> {
+    let Some(plain) = with_addresses(alloc, Plain::new(alloc))? else {
+        return Ok(false);
+    };
+    let Some(mut plain) = with_queues(alloc, plain)? else {
+        return Ok(false);
+    };
+    for row in FULL {
+        match stepped(alloc, plain, row)? {
+            Some(next) => plain = next,
+            None => return Ok(false),
+        }
+    }
+    Ok(true)
+}
+
+// The place of the first row whose reply is another one.
+fn first_wrong(alloc: Global, ids: u32, rows: &[Row]) -> Result<Option<usize>, AllocError> {
+    let mut plain = Plain::with_ids(alloc, ids);
+    for (place, row) in rows.iter().enumerate() {
+        match stepped(alloc, plain, *row)? {
+            Some(next) => plain = next,
+            None => return Ok(Some(place)),
+        }
+    }
+    Ok(None)
+}
+
+// The broker behind the first so many rows, each of which is right.
+fn after(alloc: Global, rows: &[Row], count: usize) -> Result<Option<Plain>, AllocError> {
+    let mut plain = Plain::new(alloc);
+    for row in rows.iter().take(count) {
+        match stepped(alloc, plain, *row)? {
+            Some(next) => plain = next,
+            None => return Ok(None),
+        }
+    }
+    Ok(Some(plain))
+}
+
+// Counts of rows of the script of several queues, and whether their durable parts are equal.
+const EQUALS: [(usize, usize, bool); 7] = [
+    (0, 0, true),
+    (0, 1, false),
+    (4, 5, false),
+    (7, 8, false),
+    // Consumers and what is in flight don't matter, an acknowledgement does.
+    (8, 15, true),
+    (15, 16, false),
+    (26, 27, false),
+];
+
+// The place of the first of these that isn't so.
+fn first_unequal(alloc: Global) -> Result<Option<usize>, AllocError> {
+    for (place, (one, other, equal)) in EQUALS.into_iter().enumerate() {
+        let one = after(alloc, SEVERAL.as_slice(), one)?;
+        let other = after(alloc, SEVERAL.as_slice(), other)?;
+        let (Some(one), Some(other)) = (one, other) else {
+            return Ok(Some(place));
+        };
+        if one.same(&other) != equal {
+            return Ok(Some(place));
+        }
+    }
+    Ok(None)
+}
+
+#[test]
+fn delivers_and_takes_back(rt: HostRuntime) -> Result<(), Fail> {
+    assert!(rt; first_wrong(rt.alloc(), 1_000, DELIVERIES.as_slice())?.is_none());
+    Ok(())
+}
+
+#[test]
+fn refuses_in_order(rt: HostRuntime) -> Result<(), Fail> {
+    assert!(rt; first_wrong(rt.alloc(), 1_000, REFUSALS.as_slice())?.is_none());
+    Ok(())
+}
+
+#[test]
+fn keeps_queues_apart(rt: HostRuntime) -> Result<(), Fail> {
+    assert!(rt; first_wrong(rt.alloc(), 1_000, SEVERAL.as_slice())?.is_none());
+    Ok(())
+}
+
+#[test]
+fn has_no_number_left(rt: HostRuntime) -> Result<(), Fail> {
+    assert!(rt; first_wrong(rt.alloc(), 2, NUMBERLESS.as_slice())?.is_none());
+    Ok(())
+}
+
+#[test]
+fn tells_equal_parts(rt: HostRuntime) -> Result<(), Fail> {
+    assert!(rt; first_unequal(rt.alloc())?.is_none());
+    Ok(())
+}
+
+#[test]
+fn has_no_room_left(rt: HostRuntime) -> Result<(), Fail> {
+    assert!(rt; is_full(rt.alloc())?);
+    Ok(())
+}
