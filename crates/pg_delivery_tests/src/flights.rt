@@ -7,7 +7,7 @@ use std::alloc::{AllocError, Global};
 use std::test::Fail;
 
 // A delivery of a message that the journal holds.
-fn journaled(queue: u32, epoch: u32, number: u32) -> Delivery {
+pub fn journaled(queue: u32, epoch: u32, number: u32) -> Delivery {
     Delivery {
         queue,
         id: MessageId { epoch, number },

@@ -1,5 +1,5 @@
 use pg_msg::MessageId;
-use pg_queue::{Queue, Taken};
+use pg_queue::{Queue, Queues, Taken};
 use std::alloc::{AllocError, Global};
 use std::test::Fail;
 
@@ -158,6 +158,79 @@ fn keeps_the_ends(alloc: Global) -> Result<bool, AllocError> {
     Ok(queue.receive().is_none() && queue.count() == 5)
 }
 
+// Two queues without entries, with the ids 3 and 5.
+fn pair(alloc: Global) -> Result<Queues, AllocError> {
+    let mut queues = Queues::new(alloc);
+    queues.add_queue(alloc, 3)?;
+    queues.add_queue(alloc, 5)?;
+    Ok(queues)
+}
+
+// Adds the message to that queue where it has no entry in it. Whether it had none, and has one now, which isn't taken.
+fn joins(queues: &mut Queues, id: u32, message: MessageId) -> Result<bool, AllocError> {
+    if queues.has(id, message) {
+        return Ok(false);
+    }
+    queues.add(id, message)?;
+    Ok(queues.has(id, message) && !queues.is_taken(id, message))
+}
+
+// Whether the queue with that id gives this message next, which is taken from it then.
+fn gives_from(queues: &mut Queues, id: u32, message: MessageId) -> bool {
+    queues.receive(id) == Some(Taken::Journaled(message)) && queues.is_taken(id, message)
+}
+
+// Makes the entry available again where it is taken. Whether it was, and isn't any more.
+fn returns_to(queues: &mut Queues, id: u32, message: MessageId) -> Result<bool, AllocError> {
+    if !queues.is_taken(id, message) {
+        return Ok(false);
+    }
+    queues.put_back(id, message)?;
+    Ok(queues.has(id, message) && !queues.is_taken(id, message))
+}
+
+// Takes the entry out of the queue with that id where it is taken. Whether it was, and is there no more.
+fn leaves(queues: &mut Queues, id: u32, message: MessageId) -> bool {
+    if !queues.is_taken(id, message) {
+        return false;
+    }
+    queues.remove(id, message);
+    !queues.has(id, message)
+}
+
+// Whether one message in two queues is given, put back and taken out in each for itself.
+fn keeps_queues_apart(alloc: Global) -> Result<bool, AllocError> {
+    let mut queues = pair(alloc)?;
+    Ok(
+        joins(&mut queues, 3, message(1))?
+            && joins(&mut queues, 5, message(1))?
+            && gives_from(&mut queues, 5, message(1))
+            && !queues.is_taken(3, message(1))
+            && returns_to(&mut queues, 5, message(1))?
+            && gives_from(&mut queues, 5, message(1))
+            && leaves(&mut queues, 5, message(1))
+            && queues.count(5) == Some(0)
+            && queues.count(3) == Some(1),
+    )
+}
+
+// Whether a queue that isn't there takes nothing and gives nothing, and one that is dropped is there no more.
+fn drops_one(alloc: Global) -> Result<bool, AllocError> {
+    let mut queues = pair(alloc)?;
+    let nowhere = joins(&mut queues, 4, message(1))?;
+    let there = joins(&mut queues, 3, message(1))?;
+    queues.drop_queue(3);
+    Ok(
+        there
+            && !nowhere
+            && queues.count(4).is_none()
+            && queues.receive(4).is_none()
+            && queues.count(3).is_none()
+            && queues.receive(3).is_none()
+            && queues.count(5) == Some(0),
+    )
+}
+
 #[test]
 fn is_empty_until_something_is_added(rt: HostRuntime) -> Result<(), Fail> {
     assert!(rt; is_empty_at_first(rt.alloc()));
@@ -185,5 +258,17 @@ fn takes_one_out(rt: HostRuntime) -> Result<(), Fail> {
 #[test]
 fn keeps_the_order_at_the_ends_of_ids(rt: HostRuntime) -> Result<(), Fail> {
     assert!(rt; keeps_the_ends(rt.alloc())?);
+    Ok(())
+}
+
+#[test]
+fn keeps_the_queues_apart(rt: HostRuntime) -> Result<(), Fail> {
+    assert!(rt; keeps_queues_apart(rt.alloc())?);
+    Ok(())
+}
+
+#[test]
+fn drops_one_queue_alone(rt: HostRuntime) -> Result<(), Fail> {
+    assert!(rt; drops_one(rt.alloc())?);
     Ok(())
 }

@@ -1,5 +1,5 @@
 // What is in flight for one consumer.
-ghost use Rattle.std.specs.Prelude.{◌≡◌, [], OnOk, OnErr, IfOk};
+ghost use Rattle.std.specs.Prelude.{◌≡◌, [], OnOk, OnErr, IfOk, slice_get};
 ghost use Rattle.pg_flight.specs.Deliveries.{delivery_with, with_delivery, without_delivery, AreAscending};
 ghost use Rattle.pg_flight.specs.Ids.{key_of};
 
@@ -49,6 +49,14 @@ impl Deliveries {
         ensures { result ≡ delivery_with id self.now }
     {
         self.by_id.get(&key(id)).copied()
+    }
+
+    // The first one in their order.
+    pub(crate) fn first(&self) -> Option<Delivery>
+        ensures { result ≡ slice_get self.now 0 }
+    {
+        let (_, delivery) = self.by_id.first_key_value()?;
+        Some(*delivery)
     }
 
     // Puts one in at its place, where a former one of the same message gives way. Fails only where there is no memory for it.

@@ -1,5 +1,5 @@
 // What is in flight for all consumers.
-ghost use Rattle.std.specs.Prelude.{◌≡◌, [], OnOk, OnErr, IfOk};
+ghost use Rattle.std.specs.Prelude.{◌≡◌, [], OnOk, OnErr, IfOk, slice_get};
 ghost use Rattle.pg_flight.specs.Deliveries.{with_delivery, without_delivery, AreAscending};
 ghost use Rattle.pg_flight.specs.Flights.{deliveries_of, delivery_of, cleared, ChangesAt};
 
@@ -74,6 +74,14 @@ impl Flights {
     {
         let own = self.consumers.get(consumer.as_str())?;
         own.get(id)
+    }
+
+    /// Of the deliveries to the consumer the one whose message has the lowest id. None exactly where none is in flight.
+    pub fn first(&self, consumer: &Text) -> Option<Delivery>
+        ensures { result ≡ slice_get (deliveries_of self.now consumer.now) 0 }
+    {
+        let own = self.consumers.get(consumer.as_str())?;
+        own.first()
     }
 
     /// Takes the delivery of that message to the consumer out, which is then in flight no more. None exactly where none was.

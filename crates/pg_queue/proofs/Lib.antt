@@ -1,7 +1,9 @@
 pub mod Adding
 pub mod Asking
+pub mod ByIds
 pub mod EntryLaws
 pub mod Found
+pub mod KeptQueues
 pub mod Marking
 pub mod Onward
 pub mod OtherEntries

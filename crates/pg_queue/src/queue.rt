@@ -119,6 +119,14 @@ impl Queue {
         }
     }
 
+    /// The first entry that isn't taken, which it stays. None exactly where there is none.
+    pub fn peek(&self) -> Option<Taken>
+        ensures { option_map entry_of result ≡ first_waiting self.now.entries }
+    {
+        let (_, id) = self.waiting.first_key_value()?;
+        Some(Taken::Journaled(*id))
+    }
+
     /// Takes the first entry that isn't taken. None exactly where there is none.
     pub fn receive(&mut self) -> Option<Taken>
         ensures first { option_map entry_of result ≡ first_waiting self.old.entries }
