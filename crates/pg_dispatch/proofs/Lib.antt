@@ -1,0 +1,9 @@
+pub mod Counting
+pub mod Flying
+pub mod LineLaws
+pub mod WholeLaws
+pub mod Marks
+pub mod Seen
+pub mod Steps
+pub mod EachQueue
+pub mod Closing
