@@ -131,8 +131,8 @@ impl JournaledRows {
         drop_in(alloc, &mut self.rows, queue);
     }
 
-    // The place of the first message with this id.
-    fn place_of(&self, id: MessageId) -> Option<usize>
+    /// The place of the message with that id, from 0. None where none has it. Where ids ascend it is found without a walk.
+    pub fn place_of(&self, id: MessageId) -> Option<usize>
         ensures { result ≡ position (λ row. same_id row.message.id id) self.now }
     {
         if self.ascending {

@@ -1,5 +1,5 @@
 -- What a command asks of the broker.
-use Rattle.std.specs.Prelude.{ℕ, Bool, true, false, List, Option, Some, None}
+use Rattle.std.specs.Prelude.{ℕ, List, Option, Some, None}
 use Rattle.pg_msg.specs.declared.command.Command.{Command}
 use Rattle.pg_msg.specs.declared.command.Command.TheVariants as command
 use Rattle.pg_msg.specs.declared.message.MessageId.{MessageId}
@@ -20,7 +20,7 @@ pub data Action : Type 0 where
   Count : List ℕ → Action
 
 -- What each command asks for. Queues with a filter, duplicate ids, transactions, large messages and the commands on pages
--- have no action yet.
+-- aren't built: a command that has no action is answered as an unreadable line is.
 abbrev pub action_of : Command → Option Action
 action_of (command.Address name max page ahead dup) =
     Some (MakeAddress name (record { max = max; page = page; ahead = ahead; dup = dup }))
@@ -48,16 +48,3 @@ action_of (command.Cleanup address) = None
 action_of (command.Ahead queue) = None
 action_of command.Checkpoint = None
 action_of (command.Stat address) = None
-
--- The actions that the program takes so far. A command that asks for another one is answered as an unreadable line is.
-abbrev pub is_built : Action → Bool
-is_built (MakeAddress name settings) = true
-is_built (MakeQueue name address) = true
-is_built (DropQueue name) = true
-is_built (Send address properties body) = true
-is_built (Count queue) = true
-is_built (Open name queue) = false
-is_built (Receive consumer) = false
-is_built (Acknowledge consumer message) = false
-is_built (Cancel consumer message) = false
-is_built (Close consumer) = false

@@ -1,5 +1,5 @@
 -- What each line does to the broker, and what line after line does.
-use Rattle.std.specs.Prelude.{◌≡◌, ℕ, Bool, not, ◌&&◌, ◌==◌, List, [], ◌∷◌, ◌++◌, length, find, Option, Some, None, MatchOption, if◌then◌else◌}
+use Rattle.std.specs.Prelude.{◌≡◌, ℕ, Bool, not, ◌&&◌, ◌==◌, List, [], ◌∷◌, ◌++◌, length, find, Option, Some, None, MatchOption}
 use Rattle.std.specs.List.{list_any}
 use Rattle.pg_msg.specs.declared.command.Command.{Command}
 use Rattle.pg_msg.specs.declared.message.Message.{Message}
@@ -9,7 +9,7 @@ use Rattle.pg_msg.specs.declared.reply.Refusal.{Refusal}
 use Rattle.pg_msg.specs.declared.reply.Refusal.TheVariants as refusal
 use Rattle.pg_msg.specs.declared.reply.Reply.{Reply}
 use Rattle.pg_msg.specs.declared.reply.Reply.TheVariants as answer
-use Rattle.pg_model.specs.Actions.{Action, MakeAddress, MakeQueue, DropQueue, Send, Open, Receive, Acknowledge, Cancel, Close, Count, action_of, is_built}
+use Rattle.pg_model.specs.Actions.{Action, MakeAddress, MakeQueue, DropQueue, Send, Open, Receive, Acknowledge, Cancel, Close, Count, action_of}
 use Rattle.pg_model.specs.Broker.{Queue, Consumer, Broker, address_named, queue_named, queue_with, consumer_named, same_id}
 use Rattle.pg_model.specs.Causes.{IsFirst}
 use Rattle.pg_model.specs.Changes.{with_durable, with_consumers, with_queues, with_address, with_queue, without_queue, next_id, message_of, with_message, acknowledged, with_id, without_id, with_flights, without_consumer}
@@ -85,14 +85,10 @@ pub record Acts (view : View) (s : Broker) (action : Action) (reply : Reply) (t 
   pub first : IsFirst (causes view s action) refusal
   pub answers : Answers s action refusal reply t
 
--- the action that a line asks for, if it is a command that is built
-abbrev pub if_built : Option Action → Option Action
-if_built None = None
-if_built (Some action) = if is_built action then Some action else None
-
+-- the action that a line asks for, if it is a command that has one
 abbrev pub asked : Option Command → Option Action
 asked None = None
-asked (Some command) = if_built (action_of command)
+asked (Some command) = action_of command
 
 -- Without an action the line is unreadable.
 abbrev pub Takes : View → Broker → Option Action → Reply → Broker → Type 0
