@@ -18,7 +18,7 @@ use Rattle.pg_model.specs.Changes.{without_queue as without_broker_queue}
 use Rattle.pg_recover.specs.Denotation.{durable_part, held_by, queue_of, weight_at, address_of}
 
 -- the holders but one have the others
-number_kept : (queue id : ℕ) (numbers : List ℕ) → queue ≢ id → has_number (without_number queue numbers) id ≡ has_number numbers id
+pub number_kept : (queue id : ℕ) (numbers : List ℕ) → queue ≢ id → has_number (without_number queue numbers) id ≡ has_number numbers id
 number_kept queue id [] differ = refl
 number_kept queue id (n ∷ numbers) differ = elim (cases_Bool (eqb n queue)) [
   | inl here ↦
@@ -34,7 +34,7 @@ apart : true ≡ false → ⊥
 apart e = cc
 
 -- who holds nothing more holds none
-unheld : (row : JournaledRow) (id : ℕ) → is_held row ≡ false → has_number row.holders id ≡ false
+pub unheld : (row : JournaledRow) (id : ℕ) → is_held row ≡ false → has_number row.holders id ≡ false
 unheld row id none = by row.holders none
   where
     by : (numbers : List ℕ) → not (eqb (length numbers) 0) ≡ false → has_number numbers id ≡ false
@@ -93,7 +93,7 @@ module _ (queue : ℕ) where
   dropped_part d = ap (λ (queues : List Queue). record { epoch = d.epoch; next = d.next; addresses = map address_of d.addresses; queues = queues }) (queues_left d.journaled d.queues)
 
 -- a row more weighs so much more
-weight_cons : (address : ℕ) (row : JournaledRow) (rows : List JournaledRow) → weight_at address (row ∷ rows) ≡ cond (eqb row.address address) (weight_of row.message) 0 + weight_at address rows
+pub weight_cons : (address : ℕ) (row : JournaledRow) (rows : List JournaledRow) → weight_at address (row ∷ rows) ≡ cond (eqb row.address address) (weight_of row.message) 0 + weight_at address rows
 weight_cons address row rows = by (eqb row.address address)
   where
     by : (b : Bool)

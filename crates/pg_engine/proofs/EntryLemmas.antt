@@ -1,5 +1,5 @@
 -- The conditions and fields of the entries that the commands write.
-use Rattle.std.proofs.Common.{◌≡◌, ◌≢◌, refl, sym, ◌∙◌, ap, subst, ℕ, ◌+◌, ◌<◌, ◌≤◌, ◌^◌, Bool, true, false, not, cond, ◌&&◌, eqb, ltb, leb, List, [], ◌∷◌, length, map, All, le_of_eq, Some, None, option_map, eq-eqb, ne_eqb, inl, inr, arith}
+use Rattle.std.proofs.Common.{◌≡◌, ◌≢◌, refl, sym, ◌∙◌, ap, subst, ℕ, ◌+◌, ◌<◌, ◌≤◌, ◌^◌, Bool, true, false, not, cond, ◌&&◌, eqb, ltb, leb, List, [], ◌∷◌, length, map, find, All, le_of_eq, Some, None, option_map, eq-eqb, ne_eqb, inl, inr, arith}
 use Rattle.std.specs.List.{AllByRecursion, list_all}
 use Rattle.std.specs.Str.{bytes_eq}
 use Rattle.std.proofs.lemmas.Bool.{cases_eq, and_from, and_left, and_right, or_from, or_left, or_right, lt-ltb, le-leb, cond-true}
@@ -19,13 +19,13 @@ use Rattle.pg_fold.specs.declared.rows.AddressRow.{AddressRow}
 use Rattle.pg_fold.specs.declared.rows.JournaledRow.{JournaledRow}
 use Rattle.pg_fold.specs.declared.rows.QueueRow.{QueueRow}
 use Rattle.pg_fold.specs.Fold.{rule_of, are_settings}
-use Rattle.pg_fold.specs.Rows.{has_address, has_address_named, has_queue_named, has_queue_at, queues_at, has_message, same_id}
-use Rattle.pg_fold.specs.Sound.{IsSound}
+use Rattle.pg_fold.specs.Rows.{has_address, has_address_named, has_holder, has_queue_named, has_queue_at, queues_at, has_message, same_id}
+use Rattle.pg_fold.specs.Sound.{IsHeldRow, IsSound}
 use Rattle.pg_model.specs.Broker.{IsDrawn}
 use Rattle.pg_model.specs.Broker.{Queue, address_named, queue_named}
 use Rattle.pg_recover.specs.Denotation.{address_of, queue_of}
-use Rattle.pg_engine.proofs.LookupLemmas.{address_new, queue_new, found_any, ids_at, queue_row}
-use Rattle.pg_engine.proofs.PartLemmas.{CountFrom, counted, Ascend, ascend}
+use Rattle.pg_engine.proofs.LookupLemmas.{address_new, queue_new, found_any, ids_at, queue_row, row_of}
+use Rattle.pg_engine.proofs.PartLemmas.{CountFrom, counted, placed, Ascend, ascend}
 
 module _ (address : ℕ) where
   abbrev numbers : List QueueRow → List ℕ
@@ -102,6 +102,11 @@ undrawn epoch drawn id is = elim is [
   | inr same ↦ and_right _ _ (ne_eqb id.number (drawn + 1) (λ e. let most = same.1 in omega (arith, e)))
 ]
 
+-- so it is the id of no message
+pub new_everywhere : (epoch drawn : ℕ) (rows : List JournaledRow) → AllByRecursion (λ row. IsDrawn epoch drawn row.message.id) rows → AllByRecursion (λ row. same_id row.message.id (record { epoch = epoch; number = drawn + 1 }) ≡ false) rows
+new_everywhere epoch drawn [] all = tt
+new_everywhere epoch drawn (row ∷ rows) all = (undrawn epoch drawn row.message.id all.0, new_everywhere epoch drawn rows all.1)
+
 new_id : (epoch drawn : ℕ) (rows : List JournaledRow) → AllByRecursion (λ row. IsDrawn epoch drawn row.message.id) rows → has_message rows (record { epoch = epoch; number = drawn + 1 }) ≡ false
 new_id epoch drawn [] all = refl
 new_id epoch drawn (row ∷ rows) all = or_from _ _ (undrawn epoch drawn row.message.id all.0) (new_id epoch drawn rows all.1)
@@ -162,3 +167,13 @@ module _ (d : Durable) (address drawn : ℕ) (numbers : List ℕ) (m : Message) 
 
   pub add_fields : IsMessage m → All (λ n. n < 2 ^ 32) numbers → numbers ≢ [] → address ≤ length d.addresses → HasFields (entry.Add address numbers m)
   add_fields fields in_range some high = let few = sound.addresses.few in (omega (arith, high), are_queues d address numbers sound same in_range some, fields)
+
+-- the entry that takes a message from a queue that holds it
+pub ack_condition : (d : Durable) (queue : ℕ) (id : MessageId) → has_holder d.journaled id queue ≡ true → rule_of d (entry.Ack queue id) ≡ None
+ack_condition d queue id held = cond-true _ _ _ held
+
+-- the address of a row is known
+pub row_known : (d : Durable) (row : JournaledRow) (test : JournaledRow → Bool) → IsSound d → find test d.journaled ≡ Some row → (1 ≤ row.address) × (row.address ≤ length d.addresses)
+row_known d row test sound found =
+    placed d.addresses row.address sound.addresses.numbered
+    (row_of (λ (r : JournaledRow). IsHeldRow d.addresses d.queues r) test d.journaled row (recursion_from_All (IsHeldRow d.addresses d.queues) d.journaled sound.held) found).placed

@@ -1,8 +1,8 @@
 -- What the engine's own files denote, and a command that appends one batch to the journal.
-use Rattle.std.proofs.Common.{◌≡◌, ◌≢◌, ◌⊎◌, inl, inr, ⊎_elim, ℕ, ◌+◌, ◌<◌, ◌^◌, List, [], ◌∷◌, ◌++◌, length, Option, Some, None, Result, Ok, Err, refl, sym, ◌∙◌, ap, subst, arith}
+use Rattle.std.proofs.Common.{◌≡◌, ◌≢◌, ◌⊎◌, inl, inr, ⊎_elim, ℕ, ◌+◌, ◌-◌, ◌<◌, ◌≤◌, ◌^◌, Bool, true, map, slice_get, option_map, List, [], ◌∷◌, ◌++◌, length, Option, Some, None, Result, Ok, Err, refl, sym, ◌∙◌, ap, subst, arith}
 use Rattle.std.specs.Prelude.{IfOk, OnOk, IsErr}
 use Rattle.std.specs.FinMap.{FinMap, get}
-use Rattle.std.proofs.lemmas.Option.{same_Some}
+use Rattle.std.proofs.lemmas.Option.{get_or_from_slice_get, none-some, same_Some, slice_get-map, slice_get_within}
 use Rattle.pg_disk.specs.declared.file_id.FileId.{FileId}
 use Rattle.pg_disk.specs.declared.disk.Disk.{Ghosts}
 use Rattle.pg_disk.specs.declared.fault.Fault.{Fault}
@@ -37,18 +37,21 @@ use Rattle.pg_disk.specs.Views.{Contents, as_left, as_read, bytes_of}
 use Rattle.pg_journal.specs.Looks.{LeavesOldOrNew}
 use Rattle.pg_journal.specs.Stands.{Stands, counted, name_of}
 use Rattle.pg_journal.proofs.Saying.{stands_reads, stands_says}
-use Rattle.pg_model.specs.Broker.{Durable}
-use Rattle.pg_recover.specs.Denotation.{Denotes, FoldsTo, durable_part}
-use Rattle.pg_recover.specs.Recovered.{Owns as OwnsJournal}
-use Rattle.pg_recover.specs.Viewing.{Shows}
+use Rattle.pg_model.specs.Broker.{Address, Durable}
+use Rattle.pg_recover.specs.Denotation.{Denotes, FoldsTo, address_of, durable_part, weight_at}
+use Rattle.pg_recover.specs.Recovered.{KeepsOthers, Owns as OwnsJournal}
+use Rattle.pg_fold.specs.declared.rows.AddressRow.{AddressRow}
+use Rattle.pg_fold.specs.Rows.{AreNumbered, has_address}
+use Rattle.pg_recover.specs.Viewing.{ArePaged, Shows}
+use Rattle.pg_recover.specs.WellFormed.{AreRoomy, IsThere, page_file}
 use Rattle.pg_recover.proofs.WellLemmas.{image_well}
 use Rattle.pg_recover.proofs.EpochLemmas.{spelled_push}
 use Rattle.pg_engine.specs.declared.engine.Engine.{Engine}
 use Rattle.pg_engine.specs.declared.state.Outcome.{Outcome}
 use Rattle.pg_engine.specs.declared.state.Outcome.TheVariants.{Changed, Unchanged}
-use Rattle.pg_engine.specs.Executed.{state_of, seen_by, Owns, OwnsPages, Keeps, Executes, MeetsLimit, WritesFor}
+use Rattle.pg_engine.specs.Executed.{state_of, seen_by, IsBounded, Owns, OwnsPages, Keeps, Executes, MeetsLimit, WritesFor}
 use Rattle.pg_engine.specs.Kept.{Kept, broker_of, view_of}
-use Rattle.pg_engine.specs.Outcomes.{Adds, IsAccepted, IsNoOutcome, IsOutcome, MeetsNoQueueId, Records, RecordsAsked, WantsQueueId, entries_of, unless_refused}
+use Rattle.pg_engine.specs.Outcomes.{Adds, IsAccepted, IsAsBefore, IsNoOutcome, IsOutcome, MeetsNoQueueId, Records, RecordsAsked, WantsQueueId, entries_of, unless_refused}
 use Rattle.pg_engine.proofs.WellEngine.{Grows, grown, have_fields, left_well, owned_folds, owned_sound, pages_grown, pages_known, read_well, still_quiet}
 
 -- an answer that isn't Ok owes nothing of it
@@ -83,6 +86,24 @@ owned_shown engine files owns = record {
   each = λ k d within. record { resident = refl; paged = owns.pages.paged.each k d within };
 }
 
+-- What it tells of each address keeps the bound.
+bounded_by : (d : Folded) → AreNumbered d.addresses → AreRoomy d → (id : ℕ) (address : Address) → 1 ≤ id → slice_get (map address_of d.addresses) (id - 1) ≡ Some address → weight_at id d.journaled < address.settings.max + 102400
+bounded_by d numbered roomy id address low at = by (slice_get d.addresses (id - 1)) refl (sym (slice_get-map address_of d.addresses (id - 1)) ∙ at)
+  where
+    by : (o : Option AddressRow) → slice_get d.addresses (id - 1) ≡ o → option_map address_of o ≡ Some address → weight_at id d.journaled < address.settings.max + 102400
+    by None none is = absurd (none-some address is)
+    by (Some row) found is =
+        let within = slice_get_within d.addresses (id - 1) row found in
+        let here = get_or_from_slice_get d.addresses (id - 1) row row found in
+        let number : row.id ≡ id = (let k = numbered (id - 1) row within in let same = ap (λ (r : AddressRow). r.id) here in omega (arith, k, same, low)) in
+        let room : weight_at row.id d.journaled < row.max + 102400 = subst (λ (r : AddressRow). weight_at r.id d.journaled < r.max + 102400) here (roomy (id - 1) row within) in
+        let weight = ap (λ (n : ℕ). weight_at n d.journaled) number in
+        let limit = ap (λ (a : Address). a.settings.max) (same_Some (address_of row) address is) in
+        omega (arith, room, weight, limit)
+
+pub owned_bounded : (engine : Engine) (files : FinMap file_cmp FileState) → Owns engine files → IsBounded (state_of engine) (seen_by engine)
+owned_bounded engine files owns = bounded_by engine.state.durable (owned_sound engine.journal engine.state.durable files owns.journal).addresses.numbered owns.roomy
+
 -- an entry alone is a batch
 pub spells_one : (payload : List ℕ) (entry : Entry) → payload ≡ batch_bytes (entry ∷ []) → HasFields entry → SpellsBatch payload (entry ∷ [])
 spells_one payload entry is fields = record { bytes = is; some = λ e. cc; fields = (fields, tt) }
@@ -91,7 +112,7 @@ spells_one payload entry is fields = record { bytes = is; some = λ e. cc; field
 pub kept_steps : (s t : Kept) (command : Command) (reply : Reply) (outcome : Outcome) → outcome ≡ Unchanged t reply → IsOutcome s (asked (Some command)) outcome → Step (view_of s) (broker_of s) (Some command) reply (broker_of t)
 kept_steps s t command reply outcome is what =
     let now : IsOutcome s (asked (Some command)) (Unchanged t reply) = subst (IsOutcome s (asked (Some command))) is what in
-    subst (λ (k : Kept). Step (view_of s) (broker_of s) (Some command) reply (broker_of k)) (sym now.0) now.1
+    now.1
 
 pub changed_steps : (s t : Kept) (command : Command) (batch : List ℕ) (reply : Reply) (outcome : Outcome) → outcome ≡ Changed t batch reply → IsOutcome s (asked (Some command)) outcome → Step (view_of s) (broker_of s) (Some command) reply (broker_of t)
 changed_steps s t command batch reply outcome is what = let now : IsOutcome s (asked (Some command)) (Changed t batch reply) = subst (IsOutcome s (asked (Some command))) is what in now.0
@@ -202,17 +223,31 @@ module _ {D : Type 0} (m : Ghosts D) (old : D) (law : (c : Files) (b : List ℕ)
   unread honest = record {
     view = seen_by engine;
     shown = owned_shown engine (account (m.tells old)).files owns;
+    bounded = owned_bounded engine (account (m.tells old)).files owns;
     reply = No Line;
     next = state_of engine;
     step = (refl, refl);
     moments = nothing_left (state_of engine).durable;
     kept = honest;
     told = refl;
+    others = λ file kind. refl;
     ok = (refl, record { kept = honest; stands = refl; owns = owns });
     stays = record { quiet = λ quiet. quiet; well = λ quiet well. well };
   }
 
-  -- so does a command that changes nothing
+  -- what is as before is owned as before
+  owned_still : (state : Kept) → IsAsBefore engine.state state → Owns (record { journal = engine.journal; state = state }) (account (m.tells old)).files
+  owned_still state same = record {
+    journal = subst (λ (d : Folded). OwnsJournal engine.journal d (account (m.tells old)).files) (sym same.durable) owns.journal;
+    pages = record {
+      paged = subst (λ (d : Folded). ArePaged (as_read (account (m.tells old)).files) d.addresses state.paged) (sym same.durable)
+          (subst (λ (p : List Bool). ArePaged (as_read (account (m.tells old)).files) engine.state.durable.addresses p) (sym same.paged) owns.pages.paged);
+      known = subst (λ (d : Folded). (address number : ℕ) → IsThere (as_read (account (m.tells old)).files) (page_file address number) → has_address d.addresses address ≡ true) (sym same.durable) owns.pages.known;
+    };
+    roomy = subst AreRoomy (sym same.durable) owns.roomy;
+  }
+
+  -- so does a command that changes nothing but what ends with the run
   pub unchanged : IsHonest (m.tells old) → (command : Command) (outcome : Outcome) (state : Kept) (reply : Reply) → outcome ≡ Unchanged state reply → IsOutcome engine.state (asked (Some command)) outcome
       → Executes m (state_of engine) (Some command) old old (Ok (record { journal = engine.journal; state = state }, reply))
   unchanged honest command outcome state reply is what =
@@ -220,16 +255,15 @@ module _ {D : Type 0} (m : Ghosts D) (old : D) (law : (c : Files) (b : List ℕ)
       record {
         view = seen_by engine;
         shown = owned_shown engine (account (m.tells old)).files owns;
+        bounded = owned_bounded engine (account (m.tells old)).files owns;
         reply = reply;
-        next = state_of engine;
+        next = broker_of state;
         step = now.1;
-        moments = nothing_left (state_of engine).durable;
+        moments = nothing_left (broker_of state).durable;
         kept = honest;
         told = refl;
-        ok = (
-          refl,
-          record { kept = honest; stands = ap broker_of now.0; owns = subst (λ (s : Kept). Owns (record { journal = engine.journal; state = s }) (account (m.tells old)).files) (sym now.0) owns },
-        );
+        others = λ file kind. refl;
+        ok = (refl, record { kept = honest; stands = refl; owns = owned_still state now.0 });
         stays = record { quiet = λ quiet. quiet; well = λ quiet well. well };
       }
 
@@ -266,6 +300,10 @@ module _ {D : Type 0} (m : Ghosts D) (old : D) (law : (c : Files) (b : List ℕ)
           (left.left own.batches own.stands);
     }
 
+    -- where the journal's file alone is another one, no file of another kind is
+    others_kept : (files : FinMap file_cmp FileState) → ((file : FileId) → file ≢ name_of engine.journal → get files file ≡ get (account (m.tells old)).files file) → KeepsOthers (account (m.tells old)).files files
+    others_kept files others file kind = ap bytes_of (others file (λ is. kind (ap (λ (f : FileId). f.kind) is ∙ own.stands.kind)))
+
     appending : (new : D) → Within m old new (LeavesOldOrNew engine.journal payload) → Decides m (Keeps (state_of engine).durable) (Keeps (broker_of next).durable) old new
     appending new run = quiet_from m old new (LeavesOldOrNew engine.journal payload) (Either (Keeps (state_of engine).durable) (Keeps (broker_of next).durable)) run either_left
 
@@ -275,12 +313,14 @@ module _ {D : Type 0} (m : Ghosts D) (old : D) (law : (c : Files) (b : List ℕ)
     append_failed honest reply step new result failed run changes = record {
       view = seen_by engine;
       shown = owned_shown engine (account (m.tells old)).files owns;
+      bounded = owned_bounded engine (account (m.tells old)).files owns;
       reply = reply;
       next = broker_of next;
       step = step;
       moments = appending new run;
       kept = changes.kept honest;
       told = (changes.step honest).told;
+      others = others_kept (account (m.tells new)).files (changes.step honest).others;
       ok = not_ok _ result failed;
       stays = on_not_ok _ result failed;
     }
@@ -311,12 +351,14 @@ module _ {D : Type 0} (m : Ghosts D) (old : D) (law : (c : Files) (b : List ℕ)
         record {
           view = seen_by engine;
           shown = owned_shown engine files owns;
+          bounded = owned_bounded engine files owns;
           reply = reply;
           next = broker_of next;
           step = step;
           moments = appending new run;
           kept = changes.kept honest;
           told = change.told;
+          others = others_kept after change.others;
           ok = (
             refl,
             record {
@@ -332,6 +374,7 @@ module _ {D : Type 0} (m : Ghosts D) (old : D) (law : (c : Files) (b : List ℕ)
                   alone = λ file kind other. let apart = subst (λ f. file ≢ f) same other in change.others file apart ∙ own.alone file kind apart;
                 };
                 pages = pages_now after change.others;
+                roomy = records.roomy;
               };
             },
           );

@@ -1,7 +1,9 @@
+pub mod AcknowledgingLemmas
 pub mod DroppingLemmas
 pub mod EntryLemmas
 pub mod Executing
 pub mod FitLemmas
+pub mod LineLemmas
 pub mod LookupLemmas
 pub mod NamingLemmas
 pub mod OpenedState

@@ -1,6 +1,6 @@
 -- What the routes find is what the broker has.
-use Rattle.std.proofs.Common.{◌≡◌, refl, sym, ◌∙◌, ap, ap₂, ℕ, ◌+◌, ◌≤◌, Bool, true, false, not, cond, ◌||◌, ltb, ◌==◌, List, [], ◌∷◌, length, map, find, filter, position, slice_get, Option, Some, None, option_map, is_some, inl, inr, arith}
-use Rattle.std.specs.List.{prefix_len, position_or_len, list_any}
+use Rattle.std.proofs.Common.{◌≡◌, refl, sym, ◌∙◌, ap, ap₂, subst, ℕ, ◌+◌, ◌≤◌, Bool, true, false, not, cond, ◌||◌, ltb, ◌==◌, List, [], ◌∷◌, length, map, find, filter, position, slice_get, Option, Some, None, option_map, is_some, inl, inr, arith}
+use Rattle.std.specs.List.{AllByRecursion, prefix_len, position_or_len, list_any}
 use Rattle.std.specs.Str.{bytes_eq}
 use Rattle.std.specs.Cmp.Lexicographic.{bytes_decides}
 use Rattle.std.proofs.lemmas.Bool.{cases_Bool, cases_lt, cond-true, cond-false, lt-ltb, le-ltb, or_from, or_left, or_right}
@@ -28,7 +28,7 @@ prefix_len_map test f (x ∷ xs) = ap (λ (n : ℕ). cond (test (f x)) (1 + n) 0
 position_map : {X Y : Type 0} (test : Y → Bool) (f : X → Y) (xs : List X) → position test (map f xs) ≡ position (λ x. test (f x)) xs
 position_map test f xs = ap₂ (λ (n : ℕ) (l : ℕ). cond (ltb n l) (Some n) None) (prefix_len_map (λ y. not (test y)) f xs) (length-map xs f)
 
-find_map : {X Y : Type 0} (test : Y → Bool) (f : X → Y) (xs : List X) → find test (map f xs) ≡ option_map f (find (λ x. test (f x)) xs)
+pub find_map : {X Y : Type 0} (test : Y → Bool) (f : X → Y) (xs : List X) → find test (map f xs) ≡ option_map f (find (λ x. test (f x)) xs)
 find_map test f [] = refl
 find_map test f (x ∷ xs) = ap (λ o. cond (test (f x)) (Some (f x)) o) (find_map test f xs) ∙ by (test (f x)) (find (λ y. test (f y)) xs)
   where
@@ -37,7 +37,7 @@ find_map test f (x ∷ xs) = ap (λ o. cond (test (f x)) (Some (f x)) o) (find_m
     by false o = refl
 
 -- none was found, so none passes
-none_found : {X : Type 0} (test : X → Bool) (xs : List X) → find test xs ≡ None → list_any test xs ≡ false
+pub none_found : {X : Type 0} (test : X → Bool) (xs : List X) → find test xs ≡ None → list_any test xs ≡ false
 none_found test [] none = refl
 none_found test (x ∷ xs) none =
     elim (cases_Bool (test x)) [
@@ -55,6 +55,14 @@ found_any test other (y ∷ xs) x found is =
           or_left _ _ (ap other same ∙ is)
       | inr elsewhere ↦ or_right _ _ (found_any test other xs x (sym (ap (λ b. cond b (Some y) (find test xs)) elsewhere) ∙ found) is)
     ]
+
+-- what is true of each is so of the one that was found
+pub row_of : {R : Type 0} (P : R → Type 0) (test : R → Bool) (rows : List R) (row : R) → AllByRecursion P rows → find test rows ≡ Some row → P row
+row_of P test [] row all none = absurd (none-some row none)
+row_of P test (r ∷ rows) row all found = elim (cases_Bool (test r)) [
+  | inl here ↦ subst P (same_Some r row (sym (ap (λ (b : Bool). cond b (Some r) (find test rows)) here) ∙ found)) all.0
+  | inr elsewhere ↦ row_of P test rows row all.1 (sym (ap (λ (b : Bool). cond b (Some r) (find test rows)) elsewhere) ∙ found)
+]
 
 -- two texts are compared from either side
 turned : (a b : List ℕ) → bytes_eq a b ≡ bytes_eq b a

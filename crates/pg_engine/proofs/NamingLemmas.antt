@@ -140,7 +140,7 @@ module _ (rows : List AddressRow) (i : ℕ) (row : AddressRow) (within : i < len
         ∙ ap (λ (l : List AddressRow). names_of_rows l []) (ap (λ (x : AddressRow). take i rows ++ (x ∷ [])) at ∙ sym (take_more rows i row within))
 
 module _ (rows : List QueueRow) (i : ℕ) (row : QueueRow) (within : i < length rows) (at : row ≡ get_or rows i row) where
-  lower_queues : AreAscending rows → All (λ x. x.id < row.id) (take i rows)
+  pub lower_queues : AreAscending rows → All (λ x. x.id < row.id) (take i rows)
   lower_queues ascending = λ k d less.
       let short = length-take-le i rows (omega arith) in
       let before : k < i = omega arith in

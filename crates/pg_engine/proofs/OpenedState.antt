@@ -8,7 +8,8 @@ use Rattle.pg_recover.specs.Denotation.{raised}
 use Rattle.pg_recover.specs.Recovered.{IsBegun}
 use Rattle.pg_recover.specs.WellFormed.{AreRoomy}
 use Rattle.pg_routes.specs.Names.{RouteNames}
-use Rattle.pg_engine.specs.Kept.{IsFit, names_in, weights_in}
+use Rattle.pg_dispatch.specs.Dispatch.{Line}
+use Rattle.pg_engine.specs.Kept.{IsFit, lines_in, names_in, weights_in}
 
 -- the next epoch begins no message
 raised_sound : (d : Durable) → IsSound d → IsSound (raised d)
@@ -30,13 +31,14 @@ raised_drawn : (d : Durable) → IsSound d → All (λ row. IsDrawn (d.epoch + 1
 raised_drawn d sound = All-weaker (λ row. row.message.id.epoch ≤ d.epoch) (λ row. IsDrawn (d.epoch + 1) 0 row.message.id) (λ row low. inl (omega arith)) d.journaled sound.messages.begun
 
 -- the names and the weights that are kept are those in the state
-pub opened_fit : (d : Durable) (names : RouteNames) (weights : List ℕ) (paged : List Bool) → IsBegun d → AreRoomy d → names ≡ names_in d → weights ≡ weights_in d → length paged ≡ length d.addresses → IsFit d names weights paged 0
-opened_fit d names weights paged begun roomy named weighed counted = record {
+pub opened_fit : (d : Durable) (names : RouteNames) (weights : List ℕ) (lines : List Line) (paged : List Bool) → IsBegun d → AreRoomy d → names ≡ names_in d → weights ≡ weights_in d → lines ≡ lines_in d → length paged ≡ length d.addresses → IsFit d names weights lines paged 0
+opened_fit d names weights lines paged begun roomy named weighed lined counted = record {
   sound = begun_sound d begun;
   begun = omega (arith, ap (λ (x : Durable). x.epoch) begun.is);
   roomy = roomy;
   drawn_all = subst (λ (x : Durable). All (λ row. IsDrawn x.epoch 0 row.message.id) x.journaled) (sym begun.is) (raised_drawn begun.before begun.sound);
   named = named;
   weighed = weighed;
+  lined = lined;
   counted = counted;
 }

@@ -1,5 +1,5 @@
 -- The broker that an opening gives, and what a crash within it leaves.
-use Rattle.std.proofs.Common.{◌≡◌, inl, inr, ⊎_elim, ℕ, ◌-◌, ◌≢◌, get_or, Bool, false, List, Option, refl, sym, ◌∙◌, ap, subst}
+use Rattle.std.proofs.Common.{[], ◌≡◌, inl, inr, ⊎_elim, ℕ, ◌-◌, ◌≢◌, get_or, Bool, false, List, Option, refl, sym, ◌∙◌, ap, subst}
 use Rattle.std.proofs.lemmas.List.Elements.{All-weaker}
 use Rattle.pg_disk.specs.declared.disk.Disk.{Ghosts}
 use Rattle.pg_disk.specs.declared.file_id.FileId.{FileId}
@@ -19,7 +19,7 @@ use Rattle.pg_recover.specs.Recovered.{LeavesOpened, OpensFiles}
 use Rattle.pg_recover.specs.Recovered.{Owns as OwnsJournal}
 use Rattle.pg_fold.specs.declared.rows.AddressRow.{AddressRow}
 use Rattle.pg_recover.specs.Viewing.{ArePaged, IsMarked}
-use Rattle.pg_recover.specs.WellFormed.{IsNamed, IsThere, WellFormed, page_file}
+use Rattle.pg_recover.specs.WellFormed.{AreRoomy, IsNamed, IsThere, WellFormed, page_file}
 use Rattle.pg_recover.proofs.OneState.{state_is}
 use Rattle.pg_engine.specs.declared.engine.Engine.{Engine}
 use Rattle.pg_engine.specs.Kept.{broker_of}
@@ -72,8 +72,8 @@ pub opened_at : (ids : ℕ) (old new : Option Account) (parts : Parts) (engine :
     → (IsHonest old → (d : Folded) × FoldsTo (as_read (account old).files) d × (parts.durable ≡ raised d) × OwnsJournal parts.journal parts.durable (account new).files × AllQuiet (account new).files)
     → (IsHonest old → ArePaged (as_read (account old).files) parts.durable.addresses parts.paged.items)
     → (IsHonest old → (file : FileId) → IsThere (as_read (account old).files) file → IsNamed parts.durable.addresses file)
-    → (IsHonest old → WellFormed (as_read (account old).files) → WellFormed (as_read (account new).files)) → IsHonest old → OpensAt ids old new engine
-opened_at ids old new parts engine is stays recovered paged named well honest =
+    → (IsHonest old → WellFormed (as_read (account old).files) → WellFormed (as_read (account new).files)) → AreRoomy parts.durable → IsHonest old → OpensAt ids old new engine
+opened_at ids old new parts engine is stays recovered paged named well roomy honest =
     let found = recovered honest in
     let same = (stays.step honest).change in
     let own = found.3 in
@@ -82,13 +82,14 @@ opened_at ids old new parts engine is stays recovered paged named well honest =
       opened = record { durable = durable_part found.0; denoted = record { state = found.0; folds = found.1; is = refl }; opened = refl };
       stands = record {
         kept = stays.kept honest;
-        stands = ap (λ d. broker_of (record { durable = d; drawn = 0; ids = ids; paged = parts.paged.items })) found.2;
+        stands = ap (λ d. broker_of (record { durable = d; drawn = 0; ids = ids; paged = parts.paged.items; consumers = [] })) found.2;
         owns = record {
           journal = own;
           pages = record {
             paged = pages_kept (as_read (account old).files) (as_read (account new).files) same parts.durable.addresses parts.paged.items (paged honest);
             known = λ address number there. (named honest (page_file address number) (there.0, sym (same (page_file address number) (λ is. cc)) ∙ there.1)).0;
           };
+          roomy = roomy;
         };
       };
       quiet = found.4;

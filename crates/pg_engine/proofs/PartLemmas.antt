@@ -174,7 +174,7 @@ module _ (rows : List JournaledRow) (address : ℕ) (holders : List ℕ) (m : Me
   given_one row true told = ap (has row) (held_by_more row.id true told)
   given_one row false told = ap (has row) (held_by_more row.id false told ∙ append-nil (held_by row.id rows))
 
-  queues_given : (queues : List QueueRow) → map (queue_of more) queues ≡ given holders m (map (queue_of rows) queues)
+  pub queues_given : (queues : List QueueRow) → map (queue_of more) queues ≡ given holders m (map (queue_of rows) queues)
   queues_given [] = refl
   queues_given (row ∷ queues) = ap₂ (λ (q : Queue) (qs : List Queue). q ∷ qs) (given_one row (has_number holders row.id) refl) (queues_given queues)
 

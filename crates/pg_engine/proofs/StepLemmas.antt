@@ -1,10 +1,14 @@
 -- What each command does to a state in memory is a step of the broker that it stands for.
-use Rattle.std.proofs.Common.{◌≡◌, ◌≢◌, refl, sym, ◌∙◌, ap, subst, ℕ, ◌+◌, ◌<◌, ◌≤◌, true, false, eqb, List, [], ◌∷◌, length, Option, Some, None, MatchOption, option_map, is_some, inl, inr, Result, Ok, Err, IfOk, arith}
-use Rattle.std.specs.Option.{option_map_or}
-use Rattle.std.proofs.lemmas.Bool.{eqb-true, eqb-false}
+use Rattle.std.proofs.Common.{◌≡◌, ◌≢◌, refl, sym, ◌∙◌, ap, subst, ℕ, ◌+◌, ◌<◌, ◌≤◌, Bool, true, false, not, cond, eqb, List, [], ◌∷◌, ◌++◌, length, Option, Some, None, MatchOption, option_map, is_some, inl, inr, Result, Ok, Err, IfOk, arith}
+use Rattle.std.specs.List.{Contains, list_any}
+use Rattle.std.specs.Option.{option_and_then, option_map_or}
+use Rattle.std.proofs.lemmas.Bool.{eqb-true, eqb-false, both_ways}
 use Rattle.std.proofs.lemmas.List.{length-map}
+use Rattle.std.proofs.lemmas.List.Folds.{list_any_at}
+use Rattle.std.proofs.lemmas.Map.Views.{Contains-from_any}
 use Rattle.std.proofs.lemmas.Option.{none-some, same_Some}
 use Rattle.pg_msg.specs.declared.message.Message.{Message}
+use Rattle.pg_msg.specs.declared.message.MessageId.{MessageId}
 use Rattle.pg_msg.specs.declared.properties.Property.{Property}
 use Rattle.pg_msg.specs.declared.reply.Refusal.{Refusal}
 use Rattle.pg_msg.specs.declared.reply.Refusal.TheVariants as refusal
@@ -15,23 +19,25 @@ use Rattle.pg_records.specs.declared.entry.Entry.TheVariants as entry
 use Rattle.pg_records.specs.Entries.{HasFields, batch_bytes}
 use Rattle.pg_fold.specs.declared.durable.Durable.{Durable}
 use Rattle.pg_fold.specs.Fold.{changed, rule_of}
-use Rattle.pg_model.specs.Actions.{Action, MakeAddress, MakeQueue, DropQueue, Send, Count}
-use Rattle.pg_model.specs.Broker.{Broker, Queue, Settings, address_named, queue_named}
+use Rattle.pg_dispatch.specs.Dispatch.{flight_from, has_id}
+use Rattle.pg_model.specs.Actions.{Action, MakeAddress, MakeQueue, DropQueue, Send, Open, Receive, Acknowledge, Cancel, Close, Count}
+use Rattle.pg_model.specs.Broker.{Broker, Consumer, Queue, Settings, address_named, consumer_named, queue_named, queue_with, same_id}
 use Rattle.pg_model.specs.Broker.{Durable as BrokerDurable}
 use Rattle.pg_model.specs.Causes.{Cause, IsFirst}
-use Rattle.pg_model.specs.Changes.{message_of, next_id, with_durable, with_message, with_queue, with_queues, without_queue}
-use Rattle.pg_model.specs.Refusals.{HasAddress, IsConsumed, IsHeavy, WouldPage, WantsNumber, causes, routed}
-use Rattle.pg_model.specs.Steps.{Does, IsDone, Sends}
+use Rattle.pg_model.specs.Changes.{acknowledged, message_of, next_id, with_durable, with_flights, with_message, with_queue, with_queues, without_consumer, without_id, without_queue}
+use Rattle.pg_model.specs.Changes.{with_consumers as with_consumers_of}
+use Rattle.pg_model.specs.Refusals.{HasAddress, HasConsumer, HasFlight, IsConsumed, IsHeavy, WouldPage, WantsNumber, causes, routed}
+use Rattle.pg_model.specs.Steps.{Does, Gives, IsDone, Sends, available}
 use Rattle.pg_model.proofs.CauseLaws.{one_first}
-use Rattle.pg_recover.specs.Denotation.{address_of, durable_part, held_by}
+use Rattle.pg_recover.specs.Denotation.{address_of, durable_part}
 use Rattle.pg_recover.specs.WellFormed.{AreRoomy}
 use Rattle.pg_disk.specs.declared.fault.Fault.{Fault}
 use Rattle.pg_engine.specs.declared.state.Outcome.{Outcome}
 use Rattle.pg_engine.specs.declared.state.Outcome.TheVariants.{Unchanged, Changed}
-use Rattle.pg_engine.specs.Kept.{Kept, broker_of, view_of}
-use Rattle.pg_engine.specs.Outcomes.{GrowsTo, IsAccepted, IsOutcome, WantsQueueId, entries_of, entries_of_message}
+use Rattle.pg_engine.specs.Kept.{Kept, after_giving, broker_of, next_for, view_of, with_consumers}
+use Rattle.pg_engine.specs.Outcomes.{GrowsTo, IsAccepted, IsAsBefore, IsOutcome, WantsQueueId, entries_of, entries_of_message}
+use Rattle.pg_engine.proofs.AcknowledgingLemmas.{Apart, acknowledged_part, one_id, same_from}
 use Rattle.pg_engine.proofs.DroppingLemmas.{dropped_part}
-use Rattle.pg_engine.proofs.LookupLemmas.{queue_row}
 use Rattle.pg_engine.proofs.PartLemmas.{with_address_part, with_queue_part, with_message_part}
 use Rattle.pg_fold.specs.Sound.{IsSound}
 
@@ -51,6 +57,48 @@ not_some (Some x) is some = none-some x (sym is)
 pub is_there : {X : Type 0} (o : Option X) (x : X) → o ≡ Some x → is_some o ≡ true
 is_there None x is = absurd (none-some x is)
 is_there (Some y) x is = refl
+
+-- something that a value was made of
+pub some_from : {X : Type 0} (f : X → ℕ) (o : Option X) (n : ℕ) → option_map f o ≡ Some n → (x : X) × (o ≡ Some x) × (f x ≡ n)
+some_from f None n is = absurd (none-some n is)
+some_from f (Some x) n is = (x, refl, same_Some (f x) n is)
+
+-- whether there is a consumer, by its queue
+pub no_owner : (o : Option Consumer) (r : Option ℕ) → r ≡ option_map (λ (c : Consumer). c.queue) o → is_some r ≡ false → o ≡ None
+no_owner None r same is = refl
+no_owner (Some c) r same is = absurd (both_ways (is_some r) is (ap is_some same))
+
+pub an_owner : (o : Option Consumer) (r : Option ℕ) → r ≡ option_map (λ (c : Consumer). c.queue) o → is_some r ≡ true → (c : Consumer) × (o ≡ Some c) × (r ≡ Some c.queue)
+an_owner None r same is = absurd (both_ways (is_some r) (ap is_some same) is)
+an_owner (Some c) r same is = (c, refl, same)
+
+pub not_none : (a b : Bool) → a ≡ not b → b ≡ false → a ≡ true
+not_none a b same is = same ∙ ap not is
+
+pub not_some_by : (a b : Bool) → a ≡ not b → b ≡ true → a ≡ false
+not_some_by a b same is = same ∙ ap not is
+
+-- a flight that isn't there, and one that is
+pub is_none_of : (o r : Option ℕ) → r ≡ o → is_some r ≡ false → o ≡ None
+is_none_of None r same is = refl
+is_none_of (Some x) r same is = absurd (both_ways (is_some r) is (ap is_some same))
+
+pub is_some_of : (o r : Option ℕ) → r ≡ o → is_some r ≡ true → (x : ℕ) × (o ≡ Some x)
+is_some_of None r same is = absurd (both_ways (is_some r) (ap is_some same) is)
+is_some_of (Some x) r same is = (x, refl)
+
+-- a queue that a consumer has is live
+pub queue_there : (o : Option Queue) → is_some o ≡ true → (q : Queue) × (o ≡ Some q)
+queue_there None is = cc
+queue_there (Some q) is = (q, refl)
+
+pub none_length : (o : Option Queue) → option_map (λ (q : Queue). length q.messages) o ≡ None → o ≡ None
+none_length None is = refl
+none_length (Some q) is = absurd (none-some (length q.messages) (sym is))
+
+-- a message among ids is found there
+pub has_of : (id : MessageId) (ids : List MessageId) → Contains ids id → has_id id ids ≡ true
+has_of id ids among = list_any_at (λ (other : MessageId). same_id other id) ids among.0 id among.1 (same_from _ id among.2)
 
 -- where an id was found, something was
 pub some_of : {X : Type 0} (f : X → ℕ) (o : Option X) → is_some (option_map f o) ≡ true → is_some o ≡ true
@@ -75,19 +123,19 @@ module _ (s : Kept) where
   -- an action that is refused leaves all as it was
   pub refused : (action : Action) (why : Refusal) → IsFirst (causes (view_of s) b action) (Some why) → IsOutcome s (Some action) (Unchanged s (answer.No why))
   refused action why first = (
-    refl,
+    record { durable = refl; paged = refl },
     record { refusal = Some why; first = first; answers = (refl, refl) },
     record { nothing = (Some why, first, refl); queue_id = λ meets. not_both why (one_first (causes (view_of s) b action) (Some why) None first meets.0) },
   )
 
   -- so does what asks for no action
   pub unread : IsOutcome s None (Unchanged s (answer.No refusal.Line))
-  unread = (refl, (refl, refl), record { nothing = refl; queue_id = λ no. no })
+  unread = (record { durable = refl; paged = refl }, (refl, refl), record { nothing = refl; queue_id = λ no. no })
 
   -- so does one that adds nothing
-  pub kept : (action : Action) (reply : Reply) → IsAccepted s action → Does b action reply b → entries_of s action ≡ [] → (WantsQueueId s action → ⊥) → IsOutcome s (Some action) (Unchanged s reply)
-  kept action reply accepted does nothing queue_id = (
-    refl,
+  pub kept : (action : Action) (reply : Reply) (t : Kept) → IsAsBefore s t → IsAccepted s action → Does b action reply (broker_of t) → entries_of s action ≡ [] → (WantsQueueId s action → ⊥) → IsOutcome s (Some action) (Unchanged t reply)
+  kept action reply t before accepted does nothing queue_id = (
+    before,
     record { refusal = None; first = accepted; answers = does },
     record { nothing = (None, accepted, sym nothing); queue_id = λ meets. queue_id meets.1 },
   )
@@ -111,11 +159,11 @@ module _ (s : Kept) where
   )
 
   -- the broker after an entry, by what it does to the durable part
-  broker_after : (t : Kept) (e : Entry) (drawn : ℕ) (part : BrokerDurable) → t.durable ≡ changed d e → t.drawn ≡ drawn → t.ids ≡ s.ids → durable_part (changed d e) ≡ part
-      → broker_of t ≡ record { durable = part; running = record { drawn = drawn; consumers = [] }; ids = s.ids }
-  broker_after t e drawn part effect draws ids is = λ i. record {
+  broker_after : (t : Kept) (e : Entry) (drawn : ℕ) (consumers : List Consumer) (part : BrokerDurable) → t.durable ≡ changed d e → t.drawn ≡ drawn → t.ids ≡ s.ids → t.consumers ≡ consumers → durable_part (changed d e) ≡ part
+      → broker_of t ≡ record { durable = part; running = record { drawn = drawn; consumers = consumers }; ids = s.ids }
+  broker_after t e drawn consumers part effect draws ids same is = λ i. record {
     durable = (ap durable_part effect ∙ is) i;
-    running = record { drawn = draws i; consumers = [] };
+    running = record { drawn = draws i; consumers = same i };
     ids = ids i;
   }
 
@@ -131,10 +179,10 @@ module _ (s : Kept) where
     address_entry = entry.Address (length d.addresses + 1) name settings.max settings.page settings.ahead settings.dup
 
     pub address_made : (t : Kept) (batch : List ℕ) → address_named b.durable.addresses name ≡ None → length d.addresses < 1000 → rule_of d address_entry ≡ None → HasFields address_entry → t.durable ≡ changed d address_entry
-        → t.drawn ≡ s.drawn → t.ids ≡ s.ids → batch ≡ batch_bytes (address_entry ∷ []) → AreRoomy t.durable → GrowsTo d.addresses s.paged t.durable.addresses t.paged → IsOutcome s (Some (MakeAddress name settings)) (Changed t batch answer.Done)
-    address_made t batch new few condition fields effect drawn ids bytes roomy grows =
+        → t.drawn ≡ s.drawn → t.ids ≡ s.ids → t.consumers ≡ s.consumers → batch ≡ batch_bytes (address_entry ∷ []) → AreRoomy t.durable → GrowsTo d.addresses s.paged t.durable.addresses t.paged → IsOutcome s (Some (MakeAddress name settings)) (Changed t batch answer.Done)
+    address_made t batch new few condition fields effect drawn ids same bytes roomy grows =
         recorded (MakeAddress name settings) answer.Done t batch address_entry (inr (not_some _ new, inr ((λ full. omega (arith, few, full, length-map d.addresses address_of)), refl))) (λ no. no)
-        (refl, broker_after t address_entry s.drawn _ effect drawn ids (with_address_part d name settings.max settings.page settings.ahead settings.dup)) refl condition effect fields bytes roomy grows
+        (refl, broker_after t address_entry s.drawn s.consumers _ effect drawn ids same (with_address_part d name settings.max settings.page settings.ahead settings.dup)) refl condition effect fields bytes roomy grows
 
   -- ---- the command that makes a queue
   module _ (name address : List ℕ) where
@@ -165,10 +213,10 @@ module _ (s : Kept) where
       queue_entry = entry.Queue d.next id name []
 
       pub queue_made : (t : Kept) (batch : List ℕ) → IsSound d → d.next < 4294967295 → length (routed b id) < 1000 → rule_of d queue_entry ≡ None → HasFields queue_entry → t.durable ≡ changed d queue_entry
-          → t.drawn ≡ s.drawn → t.ids ≡ s.ids → batch ≡ batch_bytes (queue_entry ∷ []) → AreRoomy t.durable → GrowsTo d.addresses s.paged t.durable.addresses t.paged → IsOutcome s (Some (MakeQueue name address)) (Changed t batch answer.Done)
-      queue_made t batch sound left room condition fields effect drawn ids bytes roomy grows =
+          → t.drawn ≡ s.drawn → t.ids ≡ s.ids → t.consumers ≡ s.consumers → batch ≡ batch_bytes (queue_entry ∷ []) → AreRoomy t.durable → GrowsTo d.addresses s.paged t.durable.addresses t.paged → IsOutcome s (Some (MakeQueue name address)) (Changed t batch answer.Done)
+      queue_made t batch sound left room condition fields effect drawn ids same bytes roomy grows =
           recorded (MakeQueue name address) answer.Done t batch queue_entry (queue_accepted room) (λ spent. omega (arith, left, spent))
-          (does_at is (refl, broker_after t queue_entry s.drawn _ effect drawn ids (with_queue_part d id name sound)))
+          (does_at is (refl, broker_after t queue_entry s.drawn s.consumers _ effect drawn ids same (with_queue_part d id name sound)))
           (ap (λ (o : Option ℕ). option_map_or (λ n. entry.Queue d.next n name [] ∷ []) o []) is) condition effect fields bytes roomy grows
         where
           does_at : address_named b.durable.addresses address ≡ Some id → IsDone answer.Done (broker_of t) (with_durable b (with_queue b.durable name id)) → Does b (MakeQueue name address) answer.Done (broker_of t)
@@ -179,24 +227,23 @@ module _ (s : Kept) where
     pub drop_nowhere : queue_named b.durable.queues name ≡ None → IsOutcome s (Some (DropQueue name)) (Unchanged s (answer.No refusal.Queue))
     drop_nowhere none = refused (DropQueue name) refusal.Queue (inl (not_some _ none, refl))
 
-    pub drop_made : (q : Queue) (t : Kept) (batch : List ℕ) → queue_named b.durable.queues name ≡ Some q → rule_of d (entry.DropQueue q.id) ≡ None → HasFields (entry.DropQueue q.id) → t.durable ≡ changed d (entry.DropQueue q.id)
-        → t.drawn ≡ s.drawn → t.ids ≡ s.ids → t.paged ≡ s.paged → batch ≡ batch_bytes (entry.DropQueue q.id ∷ []) → AreRoomy t.durable → IsOutcome s (Some (DropQueue name)) (Changed t batch answer.Done)
-    drop_made q t batch is condition fields effect drawn ids paged bytes roomy =
-        recorded (DropQueue name) answer.Done t batch (entry.DropQueue q.id) (inr ((λ none. none (is_there _ q is)), inr ((λ consumed. no_consumer q consumed), refl))) (λ no. no)
-        (subst (λ (o : Option Queue). MatchOption o ⊥ (λ x. IsDone answer.Done (broker_of t) (with_durable b (with_queues b.durable (without_queue x.id b.durable.queues))))) (sym is)
-        (refl, broker_after t (entry.DropQueue q.id) s.drawn _ effect drawn ids (dropped_part q.id d)))
-        (ap (λ (o : Option Queue). option_map_or (λ x. entry.DropQueue x.id ∷ []) o []) is) condition effect fields bytes roomy
-        (inl (ap (λ (x : Durable). x.addresses) effect, paged))
-      where
-        no_consumer : (x : Queue) → IsConsumed b name → ⊥
-        no_consumer x consumed = let some = consumed.2 in cc
+    module _ (q : Queue) (is : queue_named b.durable.queues name ≡ Some q) where
+      pub drop_consumed : list_any (λ (c : Consumer). eqb c.queue q.id) s.consumers ≡ true → IsOutcome s (Some (DropQueue name)) (Unchanged s (answer.No refusal.ConsumerOpen))
+      drop_consumed consumed = refused (DropQueue name) refusal.ConsumerOpen (inr ((λ none. none (is_there _ q is)), inl ((q, is, consumed), refl)))
 
-    -- the same by the id
-    pub drop_made_by : (id : ℕ) (q : Queue) (t : Kept) (batch : List ℕ) → queue_named b.durable.queues name ≡ Some q → id ≡ q.id → rule_of d (entry.DropQueue id) ≡ None → HasFields (entry.DropQueue id) → t.durable ≡ changed d (entry.DropQueue id)
-        → t.drawn ≡ s.drawn → t.ids ≡ s.ids → t.paged ≡ s.paged → batch ≡ batch_bytes (entry.DropQueue id ∷ []) → AreRoomy t.durable → IsOutcome s (Some (DropQueue name)) (Changed t batch answer.Done)
-    drop_made_by id q t batch is same condition fields effect drawn ids paged bytes roomy =
-        drop_made q t batch is (subst (λ (n : ℕ). rule_of d (entry.DropQueue n) ≡ None) same condition) (subst (λ (n : ℕ). HasFields (entry.DropQueue n)) same fields)
-        (effect ∙ ap (λ (n : ℕ). changed d (entry.DropQueue n)) same) drawn ids paged (bytes ∙ ap (λ (n : ℕ). batch_bytes (entry.DropQueue n ∷ [])) same) roomy
+      free : list_any (λ (c : Consumer). eqb c.queue q.id) s.consumers ≡ false → IsConsumed b name → ⊥
+      free none consumed =
+          both_ways (list_any (λ (c : Consumer). eqb c.queue q.id) s.consumers) none
+          (ap (λ (x : Queue). list_any (λ (c : Consumer). eqb c.queue x.id) s.consumers) (same_Some q consumed.0 (sym is ∙ consumed.1)) ∙ consumed.2)
+
+      pub drop_made : (t : Kept) (batch : List ℕ) → list_any (λ (c : Consumer). eqb c.queue q.id) s.consumers ≡ false → rule_of d (entry.DropQueue q.id) ≡ None → HasFields (entry.DropQueue q.id) → t.durable ≡ changed d (entry.DropQueue q.id)
+          → t.drawn ≡ s.drawn → t.ids ≡ s.ids → t.consumers ≡ s.consumers → t.paged ≡ s.paged → batch ≡ batch_bytes (entry.DropQueue q.id ∷ []) → AreRoomy t.durable → IsOutcome s (Some (DropQueue name)) (Changed t batch answer.Done)
+      drop_made t batch none condition fields effect drawn ids same paged bytes roomy =
+          recorded (DropQueue name) answer.Done t batch (entry.DropQueue q.id) (inr ((λ none. none (is_there _ q is)), inr (free none, refl))) (λ no. no)
+          (subst (λ (o : Option Queue). MatchOption o ⊥ (λ x. IsDone answer.Done (broker_of t) (with_durable b (with_queues b.durable (without_queue x.id b.durable.queues))))) (sym is)
+          (refl, broker_after t (entry.DropQueue q.id) s.drawn s.consumers _ effect drawn ids same (dropped_part q.id d)))
+          (ap (λ (o : Option Queue). option_map_or (λ x. entry.DropQueue x.id ∷ []) o []) is) condition effect fields bytes roomy
+          (inl (ap (λ (x : Durable). x.addresses) effect, paged))
 
   -- ---- the command that sends a message
   module _ (address : List ℕ) (properties : List Property) (body : List ℕ) where
@@ -226,7 +273,7 @@ module _ (s : Kept) where
 
         pub send_unrouted : [] ≡ routed b id → IsOutcome s (Some sending) (Unchanged s answer.Unrouted)
         send_unrouted none =
-            kept sending answer.Unrouted
+            kept sending answer.Unrouted s (record { durable = refl; paged = refl })
             (inr (there, inr (light, inr ((λ wants. none_routed none wants.0 wants.1 wants.2), inr ((λ wants. none_routed none wants.0 wants.1 wants.2), refl)))))
             (subst (λ (o : Option ℕ). MatchOption o ⊥ (λ n. Sends b (routed b n) properties body answer.Unrouted b)) (sym is)
             (subst (λ (l : List ℕ). Sends b l properties body answer.Unrouted b) none (refl, refl)))
@@ -240,15 +287,15 @@ module _ (s : Kept) where
           send_paged some paged = refused sending refusal.Line (inr (there, inr (light, inr (has_number_left, inl ((id, is, some, paged), refl)))))
 
           pub send_made : (numbers : List ℕ) (m : Message) (t : Kept) (batch : List ℕ) → m ≡ sent → numbers ≡ routed b id → numbers ≢ [] → (WouldPage (view_of s) b id → ⊥) → rule_of d (entry.Add id numbers m) ≡ None → HasFields (entry.Add id numbers m)
-              → t.durable ≡ changed d (entry.Add id numbers m) → t.drawn ≡ s.drawn + 1 → t.ids ≡ s.ids → t.paged ≡ s.paged → batch ≡ batch_bytes (entry.Add id numbers m ∷ []) → AreRoomy t.durable
+              → t.durable ≡ changed d (entry.Add id numbers m) → t.drawn ≡ s.drawn + 1 → t.ids ≡ s.ids → t.consumers ≡ s.consumers → t.paged ≡ s.paged → batch ≡ batch_bytes (entry.Add id numbers m ∷ []) → AreRoomy t.durable
               → IsOutcome s (Some sending) (Changed t batch (answer.Sent (next_id b)))
-          send_made [] m t batch made same some room condition fields effect drawn ids paged bytes roomy = absurd (some refl)
-          send_made (n ∷ ns) m t batch made same some room condition fields effect drawn ids paged bytes roomy =
+          send_made [] m t batch made same some room condition fields effect drawn ids same_consumers paged bytes roomy = absurd (some refl)
+          send_made (n ∷ ns) m t batch made same some room condition fields effect drawn ids same_consumers paged bytes roomy =
               recorded sending (answer.Sent (next_id b)) t batch (entry.Add id (n ∷ ns) m)
               (inr (there, inr (light, inr (has_number_left, inr ((λ wants. room (subst (WouldPage (view_of s) b) (sym (same_Some id wants.0 (sym is ∙ wants.1))) wants.3)), refl))))) (λ no. no)
               (subst (λ (o : Option ℕ). MatchOption o ⊥ (λ x. Sends b (routed b x) properties body (answer.Sent (next_id b)) (broker_of t))) (sym is)
               (subst (λ (l : List ℕ). Sends b l properties body (answer.Sent (next_id b)) (broker_of t)) same
-              (refl, broker_after t (entry.Add id (n ∷ ns) m) (s.drawn + 1) _ effect drawn ids (with_message_part d id (n ∷ ns) m) ∙ ap (with_message b (n ∷ ns)) made)))
+              (refl, broker_after t (entry.Add id (n ∷ ns) m) (s.drawn + 1) s.consumers _ effect drawn ids same_consumers (with_message_part d id (n ∷ ns) m) ∙ ap (with_message b (n ∷ ns)) made)))
               (ap (λ (o : Option ℕ). option_map_or (λ x. entries_of_message x (routed b x) sent) o []) is
               ∙ ap (λ (l : List ℕ). entries_of_message id l sent) (sym same) ∙ ap (λ (x : Message). entry.Add id (n ∷ ns) x ∷ []) (sym made))
               condition effect fields bytes roomy (inl (ap (λ (x : Durable). x.addresses) effect, paged))
@@ -258,14 +305,126 @@ module _ (s : Kept) where
     pub count_nowhere : queue_named b.durable.queues queue ≡ None → IsOutcome s (Some (Count queue)) (Unchanged s (answer.No refusal.Queue))
     count_nowhere none = refused (Count queue) refusal.Queue (inl (not_some _ none, refl))
 
-    pub count_made : (id : ℕ) → option_map (λ (q : Queue). q.id) (queue_named b.durable.queues queue) ≡ Some id → IsOutcome s (Some (Count queue)) (Unchanged s (answer.Count (length (held_by id d.journaled))))
-    count_made id is =
-        let row = queue_row queue d.journaled d.queues id is in
-        let reply = answer.Count (length (held_by id d.journaled)) in
-        kept (Count queue) reply (inr ((λ none. none (is_there _ _ row.2)), refl))
-        (subst (λ (o : Option Queue). MatchOption o ⊥ (λ q. (reply ≡ answer.Count (length q.messages)) × (b ≡ b))) (sym row.2)
-        (ap (λ (n : ℕ). answer.Count (length (held_by n d.journaled))) (sym row.1), refl))
+    pub count_made : (n : ℕ) → option_map (λ (q : Queue). length q.messages) (queue_named b.durable.queues queue) ≡ Some n → IsOutcome s (Some (Count queue)) (Unchanged s (answer.Count n))
+    count_made n is =
+        let q = some_from (λ (q : Queue). length q.messages) (queue_named b.durable.queues queue) n is in
+        kept (Count queue) (answer.Count n) s (record { durable = refl; paged = refl }) (inr ((λ none. none (is_there _ q.0 q.1)), refl))
+        (subst (λ (o : Option Queue). MatchOption o ⊥ (λ x. (answer.Count n ≡ answer.Count (length x.messages)) × (b ≡ b))) (sym q.1) (ap (λ (k : ℕ). answer.Count k) (sym q.2), refl))
         refl (λ no. no)
+
+  -- ---- the commands of consumers
+  module _ (name : List ℕ) where
+    abbrev pub owner : Option Consumer
+    owner = consumer_named s.consumers name
+
+    -- the same with other consumers
+    abbrev pub over : List Consumer → Kept
+    over consumers = with_consumers consumers s
+
+    pub open_taken : (queue : List ℕ) → is_some owner ≡ true → IsOutcome s (Some (Open name queue)) (Unchanged s (answer.No refusal.Name))
+    open_taken queue taken = refused (Open name queue) refusal.Name (inl (taken, refl))
+
+    pub open_nowhere : (queue : List ℕ) → owner ≡ None → queue_named b.durable.queues queue ≡ None → IsOutcome s (Some (Open name queue)) (Unchanged s (answer.No refusal.Queue))
+    open_nowhere queue new none = refused (Open name queue) refusal.Queue (inr (not_some _ new, inl (not_some _ none, refl)))
+
+    pub open_made : (queue : List ℕ) (q : Queue) → owner ≡ None → queue_named b.durable.queues queue ≡ Some q
+        → IsOutcome s (Some (Open name queue)) (Unchanged (over (s.consumers ++ record { name = name; queue = q.id; in_flight = [] } ∷ [])) answer.Done)
+    open_made queue q new is =
+        let consumers = s.consumers ++ record { name = name; queue = q.id; in_flight = [] } ∷ [] in
+        kept (Open name queue) answer.Done (over consumers) (record { durable = refl; paged = refl }) (inr (not_some _ new, inr ((λ none. none (is_there _ q is)), refl)))
+        (subst (λ (o : Option Queue). MatchOption o ⊥ (λ x. IsDone answer.Done (broker_of (over consumers)) (with_consumers_of b (s.consumers ++ record { name = name; queue = x.id; in_flight = [] } ∷ [])))) (sym is) (refl, refl))
+        refl (λ no. no)
+
+    pub receive_nowhere : owner ≡ None → IsOutcome s (Some (Receive name)) (Unchanged s (answer.No refusal.Consumer))
+    receive_nowhere none = refused (Receive name) refusal.Consumer (inl (not_some _ none, refl))
+
+    pub ack_nowhere : (id : MessageId) → owner ≡ None → IsOutcome s (Some (Acknowledge name id)) (Unchanged s (answer.No refusal.Consumer))
+    ack_nowhere id none = refused (Acknowledge name id) refusal.Consumer (inl (not_some _ none, refl))
+
+    pub cancel_nowhere : (id : MessageId) → owner ≡ None → IsOutcome s (Some (Cancel name id)) (Unchanged s (answer.No refusal.Consumer))
+    cancel_nowhere id none = refused (Cancel name id) refusal.Consumer (inl (not_some _ none, refl))
+
+    pub close_nowhere : owner ≡ None → IsOutcome s (Some (Close name)) (Unchanged s (answer.No refusal.Consumer))
+    close_nowhere none = refused (Close name) refusal.Consumer (inl (not_some _ none, refl))
+
+    module _ (c : Consumer) (is : owner ≡ Some c) where
+      there_is : (HasConsumer b name → ⊥) → ⊥
+      there_is none = none (is_there _ c is)
+
+      -- what is given
+      gives : (o : Option Message) (q : Queue) → queue_with b.durable.queues c.queue ≡ Some q → (reply : Reply) (t : Broker) → Gives b name o reply t → o ≡ available b q → Does b (Receive name) reply t
+      gives o q found reply t given first =
+          subst (λ (x : Option Consumer). MatchOption x ⊥ (λ y. MatchOption (queue_with b.durable.queues y.queue) ⊥ (λ q. Gives b name (available b q) reply t))) (sym is)
+          (subst (λ (x : Option Queue). MatchOption x ⊥ (λ q. Gives b name (available b q) reply t)) (sym found)
+          (subst (λ (x : Option Message). Gives b name x reply t) first given))
+
+      next_is : (q : Queue) → queue_with b.durable.queues c.queue ≡ Some q → next_for name s ≡ available b q
+      next_is q found =
+          ap (λ (o : Option Consumer). option_and_then (λ (x : Consumer). option_and_then (available b) (queue_with b.durable.queues x.queue)) o) is
+          ∙ ap (λ (o : Option Queue). option_and_then (available b) o) found
+
+      pub receive_none : (q : Queue) → queue_with b.durable.queues c.queue ≡ Some q → None ≡ next_for name s → IsOutcome s (Some (Receive name)) (Unchanged s answer.Empty)
+      receive_none q found none =
+          kept (Receive name) answer.Empty s (record { durable = refl; paged = refl }) (inr (there_is, refl)) (gives None q found answer.Empty b (refl, refl) (none ∙ next_is q found)) refl (λ no. no)
+
+      pub receive_some : (q : Queue) (m : Message) → queue_with b.durable.queues c.queue ≡ Some q → Some m ≡ next_for name s → IsOutcome s (Some (Receive name)) (Unchanged (after_giving name (Some m) s) (answer.Given m))
+      receive_some q m found some =
+          kept (Receive name) (answer.Given m) (after_giving name (Some m) s) (record { durable = refl; paged = refl }) (inr (there_is, refl))
+          (gives (Some m) q found (answer.Given m) (broker_of (after_giving name (Some m) s)) (refl, refl) (some ∙ next_is q found)) refl (λ no. no)
+
+      -- what isn't in flight for it
+      no_flight : (id : MessageId) → flight_from name id s.consumers ≡ None → HasFlight b name id → ⊥
+      no_flight id none flight = by (has_id id flight.0.in_flight) (has_of id flight.0.in_flight flight.2)
+          (sym none ∙ ap (λ (o : Option Consumer). option_and_then (λ (x : Consumer). cond (has_id id x.in_flight) (Some x.queue) None) o) flight.1)
+        where
+          by : (k : Bool) → k ≡ true → None ≡ cond k (Some flight.0.queue) None → ⊥
+          by true is e = none-some flight.0.queue e
+          by false is e = cc
+
+      pub ack_undelivered : (id : MessageId) → flight_from name id s.consumers ≡ None → IsOutcome s (Some (Acknowledge name id)) (Unchanged s (answer.No refusal.Delivery))
+      ack_undelivered id none = refused (Acknowledge name id) refusal.Delivery (inr (there_is, inl (no_flight id none, refl)))
+
+      pub cancel_undelivered : (id : MessageId) → flight_from name id s.consumers ≡ None → IsOutcome s (Some (Cancel name id)) (Unchanged s (answer.No refusal.Delivery))
+      cancel_undelivered id none = refused (Cancel name id) refusal.Delivery (inr (there_is, inl (no_flight id none, refl)))
+
+      pub close_made : IsOutcome s (Some (Close name)) (Unchanged (over (without_consumer name s.consumers)) answer.Done)
+      close_made =
+          kept (Close name) answer.Done (over (without_consumer name s.consumers)) (record { durable = refl; paged = refl }) (inr (there_is, refl)) (refl, refl) refl (λ no. no)
+
+    -- what is in flight for it
+    abbrev Flown : MessageId → ℕ → Type 0
+    Flown id queue = (c : Consumer) × (owner ≡ Some c) × (c.queue ≡ queue) × Contains c.in_flight id
+
+    flown : (id : MessageId) (queue : ℕ) → flight_from name id s.consumers ≡ Some queue → Flown id queue
+    flown id queue from = by owner refl from
+      where
+        inside : (c : Consumer) (k : Bool) → has_id id c.in_flight ≡ k → cond k (Some c.queue) None ≡ Some queue → (c.queue ≡ queue) × Contains c.in_flight id
+        inside c true has same = (same_Some c.queue queue same, Contains-from_any (λ a b same. sym (one_id b a same)) id c.in_flight has)
+        inside c false has same = absurd (none-some queue same)
+
+        by : (o : Option Consumer) → owner ≡ o → option_and_then (λ (x : Consumer). cond (has_id id x.in_flight) (Some x.queue) None) o ≡ Some queue → Flown id queue
+        by None none is = absurd (none-some queue is)
+        by (Some c) is from = let found = inside c (has_id id c.in_flight) refl from in (c, is, found.0, found.1)
+
+    has_flight : (id : MessageId) (queue : ℕ) → flight_from name id s.consumers ≡ Some queue → HasFlight b name id
+    has_flight id queue from = let f = flown id queue from in (f.0, f.1, f.3)
+
+    pub cancel_made : (id : MessageId) (queue : ℕ) → flight_from name id s.consumers ≡ Some queue → IsOutcome s (Some (Cancel name id)) (Unchanged (over (with_flights name (without_id id) s.consumers)) answer.Done)
+    cancel_made id queue from =
+        let f = flown id queue from in
+        kept (Cancel name id) answer.Done (over (with_flights name (without_id id) s.consumers)) (record { durable = refl; paged = refl })
+        (inr ((λ none. none (is_there _ f.0 f.1)), inr ((λ none. none (has_flight id queue from)), refl))) (refl, refl) refl (λ no. no)
+
+    pub ack_made : (id : MessageId) (queue : ℕ) (t : Kept) (batch : List ℕ) → flight_from name id s.consumers ≡ Some queue → Apart d.journaled → rule_of d (entry.Ack queue id) ≡ None → HasFields (entry.Ack queue id) → t.durable ≡ changed d (entry.Ack queue id)
+        → t.drawn ≡ s.drawn → t.ids ≡ s.ids → t.consumers ≡ with_flights name (without_id id) s.consumers → t.paged ≡ s.paged → batch ≡ batch_bytes (entry.Ack queue id ∷ []) → AreRoomy t.durable → IsOutcome s (Some (Acknowledge name id)) (Changed t batch answer.Done)
+    ack_made id queue t batch from differ condition fields effect drawn ids same paged bytes roomy =
+        let f = flown id queue from in
+        recorded (Acknowledge name id) answer.Done t batch (entry.Ack queue id) (inr ((λ none. none (is_there _ f.0 f.1)), inr ((λ none. none (has_flight id queue from)), refl))) (λ no. no)
+        (subst (λ (o : Option Consumer). MatchOption o ⊥ (λ c. IsDone answer.Done (broker_of t) (with_durable (with_consumers_of b (with_flights name (without_id id) s.consumers)) (with_queues b.durable (acknowledged c.queue id b.durable.queues))))) (sym f.1)
+        (subst (λ (n : ℕ). IsDone answer.Done (broker_of t) (with_durable (with_consumers_of b (with_flights name (without_id id) s.consumers)) (with_queues b.durable (acknowledged n id b.durable.queues)))) (sym f.2)
+        (refl, broker_after t (entry.Ack queue id) s.drawn (with_flights name (without_id id) s.consumers) _ effect drawn ids same (acknowledged_part queue id d differ))))
+        (ap (λ (o : Option Consumer). option_map_or (λ c. entry.Ack c.queue id ∷ []) o []) f.1 ∙ ap (λ (n : ℕ). entry.Ack n id ∷ []) f.2) condition effect fields bytes roomy
+        (inl (ap (λ (x : Durable). x.addresses) effect, paged))
 
 -- what holds by any name of an address holds by the one that it was found by
 pub made_at : (s : Kept) (name : List ℕ) (id : ℕ) (result : Result Outcome Fault)

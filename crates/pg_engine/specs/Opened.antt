@@ -1,5 +1,5 @@
 -- The states in which a broker is opened over files.
-use Rattle.std.specs.Prelude.{◌≡◌, ℕ, List, Option, length}
+use Rattle.std.specs.Prelude.{◌≡◌, ℕ, List, [], Option, length}
 use Rattle.pg_disk.specs.Account.{Account, account, AllQuiet}
 use Rattle.pg_disk.specs.Files.{Files}
 use Rattle.pg_disk.specs.Meanings.{Either, LeavesMeaning}
@@ -42,7 +42,10 @@ pub record AreParts (parts : Parts) : Type 0 where
   pub roomy : AreRoomy parts.durable
   pub counted : length parts.paged.items ≡ length parts.durable.addresses
 
--- the engine of these parts, which has drawn no id
+-- the engine of these parts, which has drawn no id and has no consumer
 abbrev pub engine_of : ℕ → Parts → Engine
 engine_of ids parts =
-    record { journal = parts.journal; state = record { durable = parts.durable; drawn = 0; ids = ids; paged = parts.paged.items } }
+    record {
+      journal = parts.journal;
+      state = record { durable = parts.durable; drawn = 0; ids = ids; paged = parts.paged.items; consumers = [] };
+    }

@@ -7,7 +7,7 @@ use Rattle.pg_msg.specs.declared.limits.TheConstants.{QUEUE_ID_LIMIT}
 use Rattle.pg_msg.specs.declared.message.Message.{Message}
 use Rattle.pg_msg.specs.declared.reply.Refusal.{Refusal}
 use Rattle.pg_model.specs.Actions.{Action, MakeAddress, MakeQueue, DropQueue, Send, Open, Receive, Acknowledge, Cancel, Close, Count}
-use Rattle.pg_model.specs.Broker.{Settings, address_named, queue_named}
+use Rattle.pg_model.specs.Broker.{Settings, address_named, consumer_named, queue_named}
 use Rattle.pg_model.specs.Causes.{IsFirst}
 use Rattle.pg_model.specs.Changes.{message_of, next_id}
 use Rattle.pg_model.specs.Refusals.{causes, routed}
@@ -19,7 +19,7 @@ use Rattle.pg_fold.specs.declared.rows.AddressRow.{AddressRow}
 use Rattle.pg_fold.specs.Fold.{IsApplied}
 use Rattle.pg_fold.specs.Rows.{has_address}
 use Rattle.pg_recover.specs.WellFormed.{AreRoomy}
-use Rattle.pg_engine.specs.declared.state.Settings.{Settings as MadeWith}
+use Rattle.pg_engine.specs.declared.address.Settings.{Settings as MadeWith}
 use Rattle.pg_engine.specs.declared.state.Outcome.{Outcome}
 use Rattle.pg_engine.specs.declared.state.Outcome.TheVariants.{Unchanged, Changed}
 use Rattle.pg_engine.specs.Kept.{Kept, broker_of, view_of}
@@ -49,7 +49,8 @@ entries_of s (Send address properties body) =
     (address_named (broker_of s).durable.addresses address) []
 entries_of s (Open name queue) = []
 entries_of s (Receive consumer) = []
-entries_of s (Acknowledge consumer id) = []
+entries_of s (Acknowledge consumer id) =
+    option_map_or (λ c. entry.Ack c.queue id ∷ []) (consumer_named s.consumers consumer) []
 entries_of s (Cancel consumer id) = []
 entries_of s (Close consumer) = []
 entries_of s (Count queue) = []
@@ -119,10 +120,15 @@ abbrev pub RecordsAsked : Kept → Option Action → List ℕ → Kept → Type 
 RecordsAsked s None batch t = ⊥
 RecordsAsked s (Some action) batch t = Records s action batch t
 
--- one step, which keeps the state or has a batch
+-- What outlives the run, and what is known of pages, is as before: at most what ends with the run changed.
+pub record IsAsBefore (s t : Kept) : Type 0 where
+  pub durable : t.durable ≡ s.durable
+  pub paged : t.paged ≡ s.paged
+
+-- one step, which keeps what outlives the run or has a batch
 abbrev pub IsOutcome : Kept → Option Action → Outcome → Type 0
 IsOutcome s asked (Unchanged t reply) =
-    (t ≡ s) × Takes (view_of s) (broker_of s) asked reply (broker_of s) × AddsNothing s asked
+    IsAsBefore s t × Takes (view_of s) (broker_of s) asked reply (broker_of t) × AddsNothing s asked
 IsOutcome s asked (Changed t batch reply) =
     Takes (view_of s) (broker_of s) asked reply (broker_of t) × RecordsAsked s asked batch t
 

@@ -1,53 +1,45 @@
-// The state of the broker in memory, and what each command does to it.
-ghost use Rattle.std.specs.Prelude.{◌≡◌, ◌≢◌, ◌≤◌, ◌<◌, ◌+◌, ◌^◌, ◌↔◌, ◌++◌, ◌∷◌, [], List, ℕ, false, All, IsTrue, Some, None, IfOk, IfErr, OnOk, length};
-ghost use Rattle.std.specs.Option.{option_map};
+// The state of the broker in memory, and how its parts change together.
+ghost use Rattle.std.specs.Prelude.{◌≡◌, ◌==◌, ◌≢◌, ◌≤◌, ◌<◌, ◌+◌, ◌^◌, ◌↔◌, ◌++◌, ◌∷◌, [], List, ℕ, true, false, All, IsTrue, Some, None, IfOk, IfErr, IfSome, OnOk, is_some, length, option_map};
+ghost use Rattle.std.specs.List.{list_any};
 ghost use Rattle.pg_msg.specs.declared.properties.Property.{Property};
-ghost use Rattle.pg_msg.specs.Commands.{AreSettings, IsInRange};
-ghost use Rattle.pg_msg.specs.Messages.{AreProperties, IsMessage, IsMessageId};
+ghost use Rattle.pg_msg.specs.Commands.{AreSettings};
+ghost use Rattle.pg_msg.specs.Messages.{IsMessage, IsMessageId};
 ghost use Rattle.pg_msg.specs.Names.{IsName};
-ghost use Rattle.pg_fold.specs.Rows.{has_number};
-ghost use Rattle.pg_model.specs.Actions.{Count, DropQueue, MakeAddress, MakeQueue, Send};
-ghost use Rattle.pg_model.specs.Broker.{address_named, queue_named};
-ghost use Rattle.pg_model.specs.Changes.{message_of, next_id};
+ghost use Rattle.pg_dispatch.specs.Dispatch.{flight_from};
+ghost use Rattle.pg_fold.specs.Rows.{has_holder};
+ghost use Rattle.pg_model.specs.Actions.{Acknowledge, DropQueue, MakeAddress, MakeQueue, Send};
+ghost use Rattle.pg_model.specs.Broker.{address_named, consumer_named, queue_named, queue_with};
+ghost use Rattle.pg_model.specs.Changes.{message_of, next_id, with_flights, without_consumer, without_id};
 ghost use Rattle.pg_model.specs.Refusals.{WouldPage, routed};
-ghost use Rattle.pg_model.specs.Steps.{asked};
-ghost use Rattle.pg_recover.specs.Denotation.{held_by};
 ghost use Rattle.pg_recover.specs.Recovered.{IsBegun};
 ghost use Rattle.pg_recover.specs.WellFormed.{AreRoomy};
-ghost use Rattle.pg_engine.specs.Kept.{HasRoom, IsId, broker_of, view_of};
-ghost use Rattle.pg_engine.specs.Outcomes.{IsNoOutcome, IsOutcome, settings_of};
+ghost use Rattle.pg_engine.specs.Kept.{HasRoom, IsId, after_giving, broker_of, next_for, view_of, with_consumers};
+ghost use Rattle.pg_engine.specs.Outcomes.{IsOutcome, settings_of};
 
+use crate::address::{Settings, add_mark, add_weight, address_entry};
+use crate::lines::{count_in, dispatched, held_message, relief};
 use crate::naming::named_routes;
+use crate::queue::queue_entry;
 use crate::recording::record_entry;
+use crate::send::id_after;
 use pg_bytes::{Octets, Text};
 use pg_disk::Fault;
-use pg_fold::{Durable, JournaledRow, JournaledRows};
-use pg_msg::{
-    Body, Command, MOST_ADDRESSES, MOST_QUEUES, Message, MessageId, Properties, QUEUE_ID_LIMIT,
-    QueueIds, Refusal, Reply, WEIGHT_LIMIT, weight,
-};
+use pg_dispatch::Dispatcher;
+use pg_fold::Durable;
+use pg_msg::{Message, MessageId, QUEUE_ID_LIMIT, QueueIds, Refusal, Reply, weight};
 use pg_records::Entry;
 use pg_recover::weights_by_address;
 use pg_routes::Routes;
 use std::alloc::{AllocError, Global};
 use std::marker::Model;
 
-/// The settings of an address: `max` and `ahead` in bytes of messages, `page` in bytes of a page file, `dup` as a count
-/// of duplicate ids.
-#[derive(Clone, Copy, Debug, PartialEq, Eq)]
-pub struct Settings {
-    pub max: u64,
-    pub page: u64,
-    pub ahead: u64,
-    pub dup: u32,
-}
-
 /// The state of the broker in memory: the folded state, the names in it by hash, the bytes of the messages of each
-/// address and whether it has a page, and the ids that were drawn.
+/// address and whether it has a page, what is in flight for whom, and the ids that were drawn.
 pub struct State {
     pub(crate) durable: Durable,
     pub(crate) routes: Routes,
     pub(crate) weights: Vec<u64>,
+    pub(crate) dispatcher: Dispatcher,
     pub(crate) paged: Vec<bool>,
     pub(crate) drawn: u32,
     pub(crate) ids: u32,
@@ -58,9 +50,15 @@ impl Model for State {
 
     ghost Value = { Kept };
 
-    ghost view = { λ i. record { durable = i.durable; drawn = i.drawn; ids = i.ids; paged = i.paged.items } };
+    ghost view = { λ i. record {
+      durable = i.durable;
+      drawn = i.drawn;
+      ids = i.ids;
+      paged = i.paged.items;
+      consumers = i.dispatcher.consumers;
+    } };
 
-    ghost invariant = { λ i. IsFit i.durable i.routes i.weights.items i.paged.items i.drawn };
+    ghost invariant = { λ i. IsFit i.durable i.routes i.weights.items i.dispatcher.lines i.paged.items i.drawn };
 }
 
 // Written out, so that what holds a state lets it go by one call.
@@ -70,6 +68,7 @@ impl Drop for State {
             durable: _durable,
             routes: _routes,
             weights: _weights,
+            dispatcher: _dispatcher,
             paged: _paged,
             drawn: _drawn,
             ids: _ids,
@@ -80,7 +79,7 @@ impl Drop for State {
 /// What a command does.
 #[derive(Drop)]
 pub enum Outcome {
-    /// The state is as before.
+    /// What outlives the run is as before.
     Unchanged {
         state: State,
         reply: Reply,
@@ -94,8 +93,8 @@ pub enum Outcome {
 }
 
 impl State {
-    /// The state of a broker that was opened: the epoch was begun, and no id is drawn. `paged` tells of each address
-    /// whether it has a page.
+    /// The state of a broker that was opened: the epoch was begun, no id is drawn, and no consumer is open. `paged` tells
+    /// of each address whether it has a page.
     pub fn new(
         alloc: Global,
         durable: Durable,
@@ -105,89 +104,32 @@ impl State {
         requires begun { IsBegun durable }
         requires roomy { AreRoomy durable }
         requires counted { length paged.items ≡ length durable.addresses }
-        ensures { IfOk result
-            (λ state. state ≡ record { durable = durable; drawn = 0; ids = ids; paged = paged.items }) }
+        ensures { IfOk result (λ state. state ≡ record
+            { durable = durable; drawn = 0; ids = ids; paged = paged.items; consumers = [] }) }
     {
         let addresses = durable.addresses.as_slice();
-        let routes = named_routes(alloc, addresses, durable.queues.as_slice())?;
+        let queues = durable.queues.as_slice();
+        let routes = named_routes(alloc, addresses, queues)?;
         let weights = weights_by_address(alloc, addresses.len(), &durable.journaled)?;
+        let dispatcher = dispatched(alloc, queues, &durable.journaled)?;
         Ok(State {
             durable,
             routes,
             weights,
+            dispatcher,
             paged,
             drawn: 0,
             ids,
         })
     }
 
-    /// Executes a command. `Memory` comes for want of memory, `Spent` where no id is left for a queue; of the other
-    /// faults none.
-    pub fn execute(self, alloc: Global, command: Command) -> Result<Outcome, Fault>
-        requires { IsInRange command }
-        ensures outcome { IfOk result (λ outcome. IsOutcome self (asked (Some command)) outcome) }
-        ensures none { IfErr result (λ fault. IsNoOutcome self (asked (Some command)) fault) }
-    {
-        match command {
-            Command::Address {
-                name,
-                max,
-                page,
-                ahead,
-                dup,
-            } => self.add_address(alloc, name, settings_with(max, page, ahead, dup)),
-            Command::Queue {
-                name,
-                address,
-                filter,
-            } => self.add_queue_with(alloc, name, address, filter),
-            Command::DropQueue { name } => self.drop_queue(alloc, name),
-            Command::Send {
-                address,
-                tx,
-                id,
-                properties,
-                body,
-            } => self.send_with(alloc, address, tx, id, properties, body),
-            Command::Count { queue } => Ok(self.count(queue)),
-            // No other command is built.
-            Command::Begin { .. }
-            | Command::Commit { .. }
-            | Command::Rollback { .. }
-            | Command::Consumer { .. }
-            | Command::Receive { .. }
-            | Command::Ack { .. }
-            | Command::Cancel { .. }
-            | Command::Close { .. }
-            | Command::Large { .. }
-            | Command::Part { .. }
-            | Command::End { .. }
-            | Command::PartOf { .. }
-            | Command::Cleanup { .. }
-            | Command::Ahead { .. }
-            | Command::Checkpoint
-            | Command::Stat { .. } => Ok(self.refused(Refusal::Line)),
-        }
-    }
-
-    // The command `address`.
-    fn add_address(self, alloc: Global, name: Text, settings: Settings) -> Result<Outcome, Fault>
-        requires name { IsName name }
-        requires settings { AreSettings settings.max settings.page settings.ahead settings.dup }
-        ensures outcome { IfOk result (λ outcome. IsOutcome self (Some (MakeAddress name (settings_of settings))) outcome) }
-        ensures none { IfErr result (λ fault. fault ≡ Fault.Memory) }
-    {
-        if self.address_id(&name).is_some() {
-            return Ok(self.refused(Refusal::Name));
-        }
-        if self.durable.addresses.as_slice().len() >= MOST_ADDRESSES {
-            return Ok(self.refused(Refusal::Room));
-        }
-        self.make_address(alloc, name, settings)
-    }
-
     // Makes the address, whose name is new.
-    fn make_address(self, alloc: Global, name: Text, settings: Settings) -> Result<Outcome, Fault>
+    pub(crate) fn make_address(
+        self,
+        alloc: Global,
+        name: Text,
+        settings: Settings,
+    ) -> Result<Outcome, Fault>
         requires name { IsName name }
         requires settings { AreSettings settings.max settings.page settings.ahead settings.dup }
         requires new { address_named (broker_of self).durable.addresses name ≡ None }
@@ -199,6 +141,7 @@ impl State {
             durable,
             mut routes,
             mut weights,
+            dispatcher,
             mut paged,
             drawn,
             ids,
@@ -213,6 +156,7 @@ impl State {
             durable,
             routes,
             weights,
+            dispatcher,
             paged,
             drawn,
             ids,
@@ -224,49 +168,13 @@ impl State {
         })
     }
 
-    // The command `queue`. Queues with a filter aren't built.
-    fn add_queue_with(
+    // Makes the queue, whose name is new, on the address with that id.
+    pub(crate) fn make_queue(
         self,
         alloc: Global,
         name: Text,
-        address: Text,
-        filter: Option<Text>,
+        address: u32,
     ) -> Result<Outcome, Fault>
-        requires { IsName name }
-        ensures outcome { IfOk result
-            (λ outcome. IsOutcome self (asked (Some (Command.Queue name address filter))) outcome) }
-        ensures none { IfErr result
-            (λ fault. IsNoOutcome self (asked (Some (Command.Queue name address filter))) fault) }
-    {
-        match filter {
-            None => self.add_queue(alloc, name, address),
-            Some(_) => Ok(self.refused(Refusal::Line)),
-        }
-    }
-
-    // The command `queue` without a filter.
-    fn add_queue(self, alloc: Global, name: Text, address: Text) -> Result<Outcome, Fault>
-        requires { IsName name }
-        ensures outcome { IfOk result (λ outcome. IsOutcome self (Some (MakeQueue name address)) outcome) }
-        ensures none { IfErr result (λ fault. IsNoOutcome self (Some (MakeQueue name address)) fault) }
-    {
-        if self.queue_id(&name).is_some() {
-            return Ok(self.refused(Refusal::Name));
-        }
-        let Some(id) = self.address_id(&address) else {
-            return Ok(self.refused(Refusal::Address));
-        };
-        if self.routed(id).len() >= MOST_QUEUES {
-            return Ok(self.refused(Refusal::Room));
-        }
-        if self.durable.next >= QUEUE_ID_LIMIT {
-            return Err(Fault::Spent);
-        }
-        self.make_queue(alloc, name, id)
-    }
-
-    // Makes the queue, whose name is new, on the address with that id.
-    fn make_queue(self, alloc: Global, name: Text, address: u32) -> Result<Outcome, Fault>
         requires name { IsName name }
         requires new { queue_named (broker_of self).durable.queues name ≡ None }
         requires known { IsId (length self.durable.addresses) address }
@@ -281,6 +189,7 @@ impl State {
             durable,
             mut routes,
             weights,
+            mut dispatcher,
             paged,
             drawn,
             ids,
@@ -289,10 +198,12 @@ impl State {
         let entry = queue_entry(alloc, queue, address, name.copy()?)?;
         let (durable, batch) = record_entry(alloc, durable, entry)?;
         routes.add_queue(alloc, queue, address, name)?;
+        dispatcher.add_queue(alloc, queue)?;
         let state = State {
             durable,
             routes,
             weights,
+            dispatcher,
             paged,
             drawn,
             ids,
@@ -304,21 +215,12 @@ impl State {
         })
     }
 
-    // The command `drop`.
-    fn drop_queue(self, alloc: Global, name: Text) -> Result<Outcome, Fault>
-        ensures outcome { IfOk result (λ outcome. IsOutcome self (Some (DropQueue name)) outcome) }
-        ensures none { IfErr result (λ fault. fault ≡ Fault.Memory) }
-    {
-        let Some(queue) = self.queue_id(&name) else {
-            return Ok(self.refused(Refusal::Queue));
-        };
-        self.remove_queue(alloc, queue)
-    }
-
-    // Drops the queue with that id, with what it holds. The messages that are held by then are weighed anew.
-    fn remove_queue(self, alloc: Global, queue: u32) -> Result<Outcome, Fault>
-        requires { (name : List ℕ)
+    // Drops the queue with that id, on which no consumer is open, with what it holds. The messages that are held by then
+    // are weighed anew.
+    pub(crate) fn remove_queue(self, alloc: Global, queue: u32) -> Result<Outcome, Fault>
+        requires named { (name : List ℕ)
             × (option_map (λ q. q.id) (queue_named (broker_of self).durable.queues name) ≡ Some queue) }
+        requires free { list_any (λ c. c.queue == queue) self.consumers ≡ false }
         ensures outcome { IfOk result (λ outcome. (name : List ℕ)
             → option_map (λ q. q.id) (queue_named (broker_of self).durable.queues name) ≡ Some queue
             → IsOutcome self (Some (DropQueue name)) outcome) }
@@ -328,18 +230,21 @@ impl State {
             durable,
             mut routes,
             weights: _weights,
+            mut dispatcher,
             paged,
             drawn,
             ids,
         } = self;
         let (durable, batch) = record_entry(alloc, durable, Entry::DropQueue { queue })?;
         routes.drop_queue(queue);
+        dispatcher.drop_queue(queue);
         let count = durable.addresses.as_slice().len();
         let weights = weights_by_address(alloc, count, &durable.journaled)?;
         let state = State {
             durable,
             routes,
             weights,
+            dispatcher,
             paged,
             drawn,
             ids,
@@ -351,73 +256,8 @@ impl State {
         })
     }
 
-    // The command `send`. Messages of a transaction and messages with a duplicate id aren't built.
-    fn send_with(
-        self,
-        alloc: Global,
-        address: Text,
-        tx: Option<Text>,
-        id: Option<Octets>,
-        properties: Properties,
-        body: Octets,
-    ) -> Result<Outcome, Fault>
-        requires { AreProperties properties }
-        ensures outcome { IfOk result
-            (λ outcome. IsOutcome self (asked (Some (Command.Send address tx id properties body))) outcome) }
-        ensures none { IfErr result (λ fault. fault ≡ Fault.Memory) }
-    {
-        match (tx, id) {
-            (None, None) => self.send(alloc, address, properties, body),
-            (Some(_), _) | (None, Some(_)) => Ok(self.refused(Refusal::Line)),
-        }
-    }
-
-    // The command `send`, outside of transactions and without a duplicate id.
-    fn send(
-        self,
-        alloc: Global,
-        address: Text,
-        properties: Properties,
-        body: Octets,
-    ) -> Result<Outcome, Fault>
-        requires { AreProperties properties }
-        ensures outcome { IfOk result (λ outcome. IsOutcome self (Some (Send address properties body)) outcome) }
-        ensures none { IfErr result (λ fault. fault ≡ Fault.Memory) }
-    {
-        let Some(id) = self.address_id(&address) else {
-            return Ok(self.refused(Refusal::Address));
-        };
-        if body.as_slice().len() as u64 >= WEIGHT_LIMIT {
-            return Ok(self.refused(Refusal::Size));
-        }
-        let message = plain_message(self.next_id(), properties, body);
-        if weight(&message) >= WEIGHT_LIMIT {
-            return Ok(self.refused(Refusal::Size));
-        }
-        let numbers = self.routed(id);
-        if numbers.is_empty() {
-            return Ok(self.unchanged(Reply::Unrouted));
-        }
-        let queues = queue_ids(alloc, numbers)?;
-        if self.drawn >= self.ids {
-            return Ok(self.refused(Refusal::Ids));
-        }
-        if self.would_page(id) {
-            return Ok(self.refused(Refusal::Line));
-        }
-        self.hold(alloc, id, queues, message)
-    }
-
-    // The id of the next message. Where no number is left it is that of another one, and no message is made of it.
-    fn next_id(&self) -> MessageId
-        ensures next { self.now.drawn < self.now.ids → result ≡ next_id (broker_of self.now) }
-        ensures fields { IsMessageId result }
-    {
-        id_after(self.durable.epoch, self.drawn, self.ids)
-    }
-
     // Holds the message, which has the next id, for the address with that id, and gives it to its queues.
-    fn hold(
+    pub(crate) fn hold(
         self,
         alloc: Global,
         address: u32,
@@ -443,6 +283,7 @@ impl State {
             durable,
             routes,
             mut weights,
+            mut dispatcher,
             paged,
             drawn,
             ids,
@@ -450,6 +291,7 @@ impl State {
         let id = message.id;
         let place = address as usize - 1;
         weights[place] = weights[place].saturating_add(weight(&message));
+        dispatcher.add(queues.as_slice(), id)?;
         let entry = Entry::Add {
             address,
             queues,
@@ -460,6 +302,7 @@ impl State {
             durable,
             routes,
             weights,
+            dispatcher,
             paged,
             drawn: drawn + 1,
             ids,
@@ -471,40 +314,131 @@ impl State {
         })
     }
 
-    // The command `count`.
-    fn count(self, queue: Text) -> Outcome
-        ensures { IsOutcome self (Some (Count queue)) result }
+    // Takes the message, which is in flight for the consumer from the queue, from what the queue holds.
+    pub(crate) fn relieve(
+        self,
+        alloc: Global,
+        consumer: &Text,
+        queue: u32,
+        id: MessageId,
+    ) -> Result<Outcome, Fault>
+        requires from { flight_from consumer.now id self.consumers ≡ Some queue }
+        requires held { has_holder self.durable.journaled id queue ≡ true }
+        requires id { IsMessageId id }
+        ensures outcome { IfOk result (λ outcome. IsOutcome self (Some (Acknowledge consumer.now id)) outcome) }
+        ensures none { IfErr result (λ fault. fault ≡ Fault.Memory) }
     {
-        let Some(id) = self.queue_id(&queue) else {
-            return self.refused(Refusal::Queue);
+        let State {
+            durable,
+            routes,
+            mut weights,
+            mut dispatcher,
+            paged,
+            drawn,
+            ids,
+        } = self;
+        let (address, bytes) = relief(&durable.journaled, queue, id);
+        let place = address as usize - 1;
+        weights[place] = weights[place].saturating_sub(bytes);
+        dispatcher.acknowledge(consumer, id);
+        let (durable, batch) = record_entry(alloc, durable, Entry::Ack { queue, message: id })?;
+        let state = State {
+            durable,
+            routes,
+            weights,
+            dispatcher,
+            paged,
+            drawn,
+            ids,
         };
-        let count = count_held(&self.durable.journaled, id);
-        self.unchanged(Reply::Count(count))
+        Ok(Outcome::Changed {
+            state,
+            batch,
+            reply: Reply::Done,
+        })
+    }
+
+    // Opens the consumer, whose name is new, on the live queue with that id.
+    pub(crate) fn open_on(
+        &mut self,
+        alloc: Global,
+        name: Text,
+        queue: u32,
+    ) -> Result<(), AllocError>
+        requires new { consumer_named self.old.consumers name ≡ None }
+        requires live { is_some (queue_with (broker_of self.old).durable.queues queue) ≡ true }
+        ensures { OnOk result (self.new ≡ with_consumers
+            (self.old.consumers ++ record { name = name; queue = queue; in_flight = [] } ∷ []) self.old) }
+    {
+        self.dispatcher.open(alloc, name, queue)
+    }
+
+    // Gives the consumer the first message of its queue that isn't in flight, from the one copy that the journal's state
+    // holds.
+    pub(crate) fn give(
+        &mut self,
+        alloc: Global,
+        consumer: &Text,
+    ) -> Result<Option<Message>, AllocError>
+        requires { is_some (consumer_named self.old.consumers consumer.now) ≡ true }
+        ensures given { IfOk result (λ given. given ≡ next_for consumer.now self.old) }
+        ensures taken { IfOk result (λ given. self.new ≡ after_giving consumer.now given self.old) }
+    {
+        let Some(id) = self.dispatcher.receive(alloc, consumer)? else {
+            return Ok(None);
+        };
+        Ok(Some(held_message(alloc, &self.durable.journaled, id)?))
+    }
+
+    // Makes the message, which is in flight for the consumer, available again, at its place.
+    pub(crate) fn put_back(&mut self, consumer: &Text, id: MessageId) -> Result<(), AllocError>
+        requires { is_some (flight_from consumer.now id self.old.consumers) ≡ true }
+        ensures { OnOk result (self.new ≡ with_consumers
+            (with_flights consumer.now (without_id id) self.old.consumers) self.old) }
+    {
+        self.dispatcher.cancel(consumer, id)
+    }
+
+    // Closes the consumer. What is in flight for it is available again, at its place.
+    pub(crate) fn shut(&mut self, alloc: Global, consumer: &Text) -> Result<(), AllocError>
+        requires { is_some (consumer_named self.old.consumers consumer.now) ≡ true }
+        ensures { OnOk result (self.new ≡ with_consumers (without_consumer consumer.now self.old.consumers) self.old) }
+    {
+        self.dispatcher.close(alloc, consumer)
+    }
+
+    // The id of the next message. Where no number is left it is that of another one, and no message is made of it.
+    pub(crate) fn next_id(&self) -> MessageId
+        ensures next { self.now.drawn < self.now.ids → result ≡ next_id (broker_of self.now) }
+        ensures fields { IsMessageId result }
+    {
+        id_after(self.durable.epoch, self.drawn, self.ids)
     }
 
     // The id of the address of that name.
-    fn address_id(&self, name: &Text) -> Option<u32>
+    pub(crate) fn address_id(&self, name: &Text) -> Option<u32>
         ensures { result ≡ address_named (broker_of self.now).durable.addresses name.now }
     {
         self.routes.address_id(name.as_str())
     }
 
     // The id of the live queue of that name.
-    fn queue_id(&self, name: &Text) -> Option<u32>
-        ensures { result ≡ option_map (λ q. q.id) (queue_named (broker_of self.now).durable.queues name.now) }
+    pub(crate) fn queue_id(&self, name: &Text) -> Option<u32>
+        ensures id { result ≡ option_map (λ q. q.id) (queue_named (broker_of self.now).durable.queues name.now) }
+        ensures live { IfSome result (λ queue. is_some (queue_with (broker_of self.now).durable.queues queue) ≡ true) }
     {
         self.routes.queue_id(name.as_str())
     }
 
     // The ids of the queues that a message to the address goes to.
-    fn routed(&self, address: u32) -> &[u32]
+    pub(crate) fn routed(&self, address: u32) -> &[u32]
         ensures { result.now ≡ routed (broker_of self.now) address }
     {
         self.routes.queues_at(address)
     }
 
     // Whether a message to the address would be paged: it has a page, or its messages come to its `max`.
-    fn would_page(&self, address: u32) -> bool
+    pub(crate) fn would_page(&self, address: u32) -> bool
         requires { IsId (length self.now.durable.addresses) address }
         ensures { IsTrue result ↔ WouldPage (view_of self.now) (broker_of self.now) address }
     {
@@ -512,119 +446,55 @@ impl State {
         self.paged[place] || self.durable.addresses.as_slice()[place].max <= self.weights[place]
     }
 
+    // The id of the queue of the consumer of that name.
+    pub(crate) fn consumed_by(&self, consumer: &Text) -> Option<u32>
+        ensures queue { result ≡ option_map (λ c. c.queue) (consumer_named self.now.consumers consumer.now) }
+        ensures live { IfSome result (λ queue. is_some (queue_with (broker_of self.now).durable.queues queue) ≡ true) }
+    {
+        self.dispatcher.queue_of(consumer)
+    }
+
+    // Whether a consumer is open on the queue.
+    pub(crate) fn is_consumed(&self, queue: u32) -> bool
+        ensures { result ≡ list_any (λ c. c.queue == queue) self.now.consumers }
+    {
+        self.dispatcher.is_consumed(queue)
+    }
+
+    // The id of the queue from which the message is in flight for the consumer of that name.
+    pub(crate) fn flight(&self, consumer: &Text, id: MessageId) -> Option<u32>
+        ensures from { result ≡ flight_from consumer.now id self.now.consumers }
+        ensures held { IfSome result (λ queue. has_holder self.now.durable.journaled id queue ≡ true) }
+    {
+        self.dispatcher.flight(consumer, id)
+    }
+
+    // How many messages the live queue of that name holds.
+    pub(crate) fn count_of(&self, name: &Text) -> Option<u64>
+        ensures { result ≡ option_map (λ q. length q.messages) (queue_named (broker_of self.now).durable.queues name.now) }
+    {
+        let id = self.queue_id(name)?;
+        count_in(&self.dispatcher, &self.durable.journaled, id)
+    }
+
     // A refusal, which leaves all as it was.
-    fn refused(self, refusal: Refusal) -> Outcome
+    pub(crate) fn refused(self, refusal: Refusal) -> Outcome
         ensures { result ≡ Outcome.Unchanged self (Reply.No refusal) }
     {
         self.unchanged(Reply::No(refusal))
     }
 
+    // The refusal of a command that isn't built.
+    pub(crate) fn unread(self) -> Outcome
+        ensures { result ≡ Outcome.Unchanged self (Reply.No Refusal.Line) }
+    {
+        self.refused(Refusal::Line)
+    }
+
     // A reply that leaves all as it was.
-    fn unchanged(self, reply: Reply) -> Outcome
+    pub(crate) fn unchanged(self, reply: Reply) -> Outcome
         ensures { result ≡ Outcome.Unchanged self reply }
     {
         Outcome::Unchanged { state: self, reply }
     }
-}
-
-// The settings of an address.
-fn settings_with(max: u64, page: u64, ahead: u64, dup: u32) -> Settings
-    ensures { result ≡ record { max = max; page = page; ahead = ahead; dup = dup } }
-{
-    Settings {
-        max,
-        page,
-        ahead,
-        dup,
-    }
-}
-
-// The entry of an address.
-fn address_entry(address: u32, name: Text, settings: Settings) -> Entry
-    ensures { result ≡ Entry.Address address name settings.max settings.page settings.ahead settings.dup }
-{
-    Entry::Address {
-        address,
-        name,
-        max: settings.max,
-        page: settings.page,
-        ahead: settings.ahead,
-        dup: settings.dup,
-    }
-}
-
-// The entry of a queue without a filter.
-fn queue_entry(alloc: Global, queue: u32, address: u32, name: Text) -> Result<Entry, AllocError>
-    ensures { IfOk result (λ entry. entry ≡ Entry.Queue queue address name []) }
-{
-    Ok(Entry::Queue {
-        queue,
-        address,
-        name,
-        filter: Text::from_str(alloc, "")?,
-    })
-}
-
-// A message that is all here, without a duplicate id.
-fn plain_message(id: MessageId, properties: Properties, body: Octets) -> Message
-    ensures { result ≡ message_of id properties body }
-{
-    Message {
-        id,
-        dup: None,
-        properties,
-        body: Body::Plain(body),
-    }
-}
-
-// The id behind so many that were drawn in the epoch, and some id of it where as many were drawn as it has.
-fn id_after(epoch: u32, drawn: u32, ids: u32) -> MessageId
-    requires { 1 ≤ epoch }
-    ensures next { drawn < ids → result ≡ record { epoch = epoch; number = drawn + 1 } }
-    ensures fields { IsMessageId result }
-{
-    let number = if drawn < ids { drawn + 1 } else { 1 };
-    MessageId { epoch, number }
-}
-
-// The queues with these numbers.
-fn queue_ids(alloc: Global, numbers: &[u32]) -> Result<QueueIds, AllocError>
-    ensures same { IfOk result (λ queues. queues ≡ numbers.now) }
-    ensures in_range { All (λ number. number < 2 ^ 32) numbers.now }
-{
-    Ok(QueueIds::from_vec(Vec::from_slice(alloc, numbers)?))
-}
-
-// Whether the queue holds the message.
-fn is_held_by(row: &JournaledRow, queue: u32) -> bool
-    ensures { result ≡ has_number row.now.holders queue }
-{
-    row.holders.as_slice().contains(&queue)
-}
-
-// How many of the messages the queue holds.
-fn count_held(rows: &JournaledRows, queue: u32) -> u64
-    ensures { result ≡ length (held_by queue rows.now) }
-{
-    let mut count = 0;
-    for place in 0..rows.len() {
-        count += u64::from(is_held_by(rows.row(place), queue));
-    }
-    count
-}
-
-// Adds the weight of an address without messages.
-fn add_weight(weights: &mut Vec<u64>) -> Result<(), AllocError>
-    ensures { OnOk result (weights.new.items ≡ weights.old.items ++ 0 ∷ []) }
-{
-    weights.push(0)?;
-    Ok(())
-}
-
-// Adds the mark of an address without pages.
-fn add_mark(paged: &mut Vec<bool>) -> Result<(), AllocError>
-    ensures { OnOk result (paged.new.items ≡ paged.old.items ++ false ∷ []) }
-{
-    paged.push(false)?;
-    Ok(())
 }

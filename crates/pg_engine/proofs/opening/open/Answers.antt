@@ -11,7 +11,7 @@ returns-in_err-new-clause-any_moment g c =
 
 pub returns-clause-opens : goal.returns-clause-opens
 returns-clause-opens g c =
-    opened_at c.args.limits.now.ids (g.D.Disk.tells c.args.disk.now) (g.D.Disk.tells c.recover.new.disk) c.in_ok-parts.parts c.in_ok-new.field-0 c.in_ok-new.ensures c.recover.ensures.stays c.in_ok-parts.ensures.recovered c.in_ok-parts.ensures.paged c.in_ok-parts.ensures.named c.in_ok-parts.ensures.well
+    opened_at c.args.limits.now.ids (g.D.Disk.tells c.args.disk.now) (g.D.Disk.tells c.recover.new.disk) c.in_ok-parts.parts c.in_ok-new.field-0 c.in_ok-new.ensures c.recover.ensures.stays c.in_ok-parts.ensures.recovered c.in_ok-parts.ensures.paged c.in_ok-parts.ensures.named c.in_ok-parts.ensures.well c.in_ok-parts.ensures.roomy
 
 pub returns-clause-any_moment : goal.returns-clause-any_moment
 returns-clause-any_moment g c =

@@ -59,7 +59,7 @@ invariant_of-state c =
     c.address_entry-entry.ensures ∙ ap₂ (λ (n : ℕ) (t : List ℕ). entry.Address (n + 1) t st.max st.page st.ahead st.dup) count c.in_ok-copy.ensures in
     let condition = address_condition d c.args.name st.max st.page st.ahead st.dup c.self.invariant.sound new few c.requires.settings in
     let fields = address_fields d c.args.name st.max st.page st.ahead st.dup few c.requires.name c.requires.settings in
-    with_address_fit d c.in_ok-durable.durable i.routes c.add_address.new.self i.weights.items c.add_weight.new.weights.items i.paged.items c.add_mark.new.paged.items i.drawn c.args.name st.max st.page st.ahead st.dup c.self.invariant
+    with_address_fit d c.in_ok-durable.durable i.routes c.add_address.new.self i.weights.items c.add_weight.new.weights.items i.dispatcher.lines i.paged.items c.add_mark.new.paged.items i.drawn c.args.name st.max st.page st.ahead st.dup c.self.invariant
     condition fields (c.in_ok-durable.ensures.changed ∙ ap (changed d) made)
     (c.in_ok-add_address.ensures.ok ∙ ap (λ (n : ℕ). with_address (record { id = n + 1; name = c.args.name }) i.routes) count)
     c.in_ok-add_weight.ensures c.in_ok-add_mark.ensures
@@ -77,13 +77,13 @@ returns-clause-outcome c =
     let condition = address_condition d c.args.name st.max st.page st.ahead st.dup c.self.invariant.sound new few c.requires.settings in
     let fields = address_fields d c.args.name st.max st.page st.ahead st.dup few c.requires.name c.requires.settings in
     let effect = c.in_ok-durable.ensures.changed ∙ ap (changed d) made in
-    let fit = with_address_fit d c.in_ok-durable.durable i.routes c.add_address.new.self i.weights.items c.add_weight.new.weights.items i.paged.items c.add_mark.new.paged.items i.drawn c.args.name st.max st.page st.ahead st.dup
+    let fit = with_address_fit d c.in_ok-durable.durable i.routes c.add_address.new.self i.weights.items c.add_weight.new.weights.items i.dispatcher.lines i.paged.items c.add_mark.new.paged.items i.drawn c.args.name st.max st.page st.ahead st.dup
     c.self.invariant condition fields effect
     (c.in_ok-add_address.ensures.ok ∙ ap (λ (n : ℕ). with_address (record { id = n + 1; name = c.args.name }) i.routes) count)
     c.in_ok-add_weight.ensures c.in_ok-add_mark.ensures in
-    let s : Kept = record { durable = d; drawn = i.drawn; ids = i.ids; paged = i.paged.items } in
-    let t : Kept = record { durable = c.in_ok-durable.durable; drawn = i.drawn; ids = i.ids; paged = c.add_mark.new.paged.items } in
+    let s : Kept = record { durable = d; drawn = i.drawn; ids = i.ids; paged = i.paged.items; consumers = i.dispatcher.consumers } in
+    let t : Kept = record { durable = c.in_ok-durable.durable; drawn = i.drawn; ids = i.ids; paged = c.add_mark.new.paged.items; consumers = i.dispatcher.consumers } in
     let row : AddressRow = record { id = length d.addresses + 1; name = c.args.name; max = st.max; page = st.page; ahead = st.ahead; dup = st.dup; first = 1 } in
     subst (λ (k : Kept). IsOutcome k (Some (MakeAddress c.args.name (settings_of st))) (Changed t c.in_ok-durable.batch Done)) c.self.view_is
-    (address_made s c.args.name (settings_of st) t c.in_ok-durable.batch new few condition fields effect refl refl (c.in_ok-durable.ensures.batch ∙ ap (λ (e : Entry). batch_bytes (e ∷ [])) made) fit.roomy
+    (address_made s c.args.name (settings_of st) t c.in_ok-durable.batch new few condition fields effect refl refl refl (c.in_ok-durable.ensures.batch ∙ ap (λ (e : Entry). batch_bytes (e ∷ [])) made) fit.roomy
     (inr (row, ap (λ (x : Durable). x.addresses) effect, new_behind d.addresses row.id c.self.invariant.sound.addresses.numbered refl, c.in_ok-add_mark.ensures)))

@@ -14,10 +14,10 @@ returns-else-index c =
     let weight = c.index-else-index.result.now in (
       λ full.
           subst (λ (k : Kept). WouldPage (view_of k) (broker_of k) c.args.address) c.self.view_is
-          (full_pages i.durable i.routes i.weights.items i.paged.items i.drawn c.args.address c.self.invariant known i.ids c.index.result.now c.index.ensures c.if-index.false other weight c.index-else-index.ensures
+          (full_pages i.durable i.routes i.weights.items i.dispatcher.lines i.paged.items i.drawn c.args.address c.self.invariant known i.ids i.dispatcher.consumers c.index.result.now c.index.ensures c.if-index.false other weight c.index-else-index.ensures
           (ap (λ n. leb n weight) (sym same) ∙ full)),
       λ paged.
           ap (λ n. leb n weight) same
-          ∙ pages_full i.durable i.routes i.weights.items i.paged.items i.drawn c.args.address c.self.invariant known i.ids c.index.result.now c.index.ensures c.if-index.false other weight c.index-else-index.ensures
+          ∙ pages_full i.durable i.routes i.weights.items i.dispatcher.lines i.paged.items i.drawn c.args.address c.self.invariant known i.ids i.dispatcher.consumers c.index.result.now c.index.ensures c.if-index.false other weight c.index-else-index.ensures
           (subst (λ (k : Kept). WouldPage (view_of k) (broker_of k) c.args.address) (sym c.self.view_is) paged),
     )
