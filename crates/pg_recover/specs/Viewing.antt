@@ -7,7 +7,7 @@ use Rattle.pg_disk.specs.declared.file_id.Kind.TheVariants.{Journal, Page, Large
 use Rattle.pg_disk.specs.Views.{Contents}
 use Rattle.pg_fold.specs.declared.durable.Durable.{Durable as Folded}
 use Rattle.pg_fold.specs.declared.rows.AddressRow.{AddressRow}
-use Rattle.pg_model.specs.Broker.{Broker, Durable}
+use Rattle.pg_model.specs.Broker.{Durable}
 use Rattle.pg_model.specs.Refusals.{Paging, View}
 use Rattle.pg_recover.specs.Denotation.{FoldsTo, durable_part, weight_at}
 use Rattle.pg_recover.specs.WellFormed.{IsThere, page_file}
@@ -36,10 +36,6 @@ pub record Shows (contents : Contents) (durable : Durable) (view : View) : Type 
   pub folds : FoldsTo contents state
   pub is : durable ≡ durable_part state
   pub each : All (λ row. IsShown contents state row (view row.id)) state.addresses
-
--- the view of some files that denote what outlives the run of this state
-abbrev pub IsSeen : Broker → View → Type 0
-IsSeen s view = (contents : Contents) × Shows contents s.durable view
 
 -- ---- how it is read off a listing
 -- the file is a page of the address, from its first one on

@@ -18,7 +18,7 @@ use Rattle.pg_msg.specs.declared.command.Command.{Command}
 use Rattle.pg_msg.specs.declared.reply.Reply.{Reply}
 use Rattle.pg_text.specs.Spelling.{ReadsAs}
 use Rattle.pg_text.specs.Replies.{reply_line, reply_bytes}
-use Rattle.pg_disk.specs.Views.{as_left, as_read}
+use Rattle.pg_disk.specs.Views.{Contents, as_left, as_read}
 use Rattle.pg_engine.specs.declared.engine.Engine.{Engine}
 use Rattle.pg_model.specs.Broker.{Broker}
 use Rattle.pg_model.specs.Steps.{StepSeen, last_state}
@@ -28,11 +28,12 @@ use Rattle.pg_recover.specs.WellFormed.{WellFormed}
 use Rattle.pg_recover.proofs.WellLemmas.{image_well}
 use Rattle.pg_engine.specs.Executed.{state_of, Owns, Keeps, StandsAt, Executes}
 use Rattle.pg_disk.specs.Views.{as_read}
-use Rattle.pg_recover.specs.Viewing.{IsSeen}
 use Rattle.pg_engine.proofs.Executing.{owned_denote}
 use Rattle.pg_run.specs.Answered.{Answers, IsPartOf}
 use Rattle.pg_run.specs.Served.{Tells, LeavesBetween, Serves, ServesAll}
+use Rattle.pg_run.specs.Sights.{HasSamePages, IsSeenBeside}
 use Rattle.pg_run.proofs.RunLemmas.{line_some, tells_all}
+use Rattle.pg_run.proofs.SightLemmas.{kept_pages}
 
 -- of one reply nothing is told yet
 abbrev none_told : (reply : Reply) → Tells (reply ∷ []) 0 []
@@ -104,8 +105,8 @@ module _ (first : Broker) (item : Option Command) (reply : Reply) (next : Broker
       }
 
 -- a command that was executed is a step under the view of the files that there were
-seen_step : {D : Type 0} (m : Ghosts D) (first : Broker) (item : Option Command) (old new : D) (result : Result (Engine × Reply) Fault) → (executes : Executes m first item old new result) → StepSeen IsSeen first item executes.reply executes.next
-seen_step m first item old new result executes = (executes.view, (as_read (account (m.tells old)).files, executes.shown), executes.step)
+seen_step : {D : Type 0} (m : Ghosts D) (first : Broker) (item : Option Command) (old new : D) (result : Result (Engine × Reply) Fault) → (executes : Executes m first item old new result) → StepSeen (IsSeenBeside (as_read (account (m.tells old)).files)) first item executes.reply executes.next
+seen_step m first item old new result executes = (executes.view, record { contents = as_read (account (m.tells old)).files; beside = λ address number. refl; shown = executes.shown; bounded = executes.bounded }, executes.step)
 
 -- what holds of an error holds of a result that is one
 at_err : {T E : Type 0} (P : T → Type 0) (Q : E → Type 0) (result : Result T E) → IsErr result → ((e : E) → Q e) → MatchResult result P Q
@@ -135,6 +136,10 @@ abbrev nothing_told : Tells [] 0 []
 nothing_told = record { part = []; within = omega arith; bytes = refl; begun = refl }
 
 module _ {D : Type 0} (m : Ghosts D) (old : D) (first : Broker) (line : List ℕ) (honest : IsHonest (m.tells old)) where
+  -- what the files have in them at entry
+  abbrev at_entry : Contents
+  at_entry = as_read (account (m.tells old)).files
+
   -- the line wasn't begun
   pub unanswered : (engine : Engine) → ((c : Files) (b : List ℕ) → m.left_since old (m.moment old) c b → Leaves (m.tells old) c b) → state_of engine ≡ first → Owns engine (account (m.tells old)).files
       → (serves : Serves LeavesBetween m first (line ∷ []) old old) × (serves.told.part ≡ [])
@@ -168,7 +173,7 @@ module _ {D : Type 0} (m : Ghosts D) (old : D) (first : Broker) (line : List ℕ
     told = nothing_told;
   } in (serves, refl)
 
-  module _ (item : Option Command) (reads : ReadsAs line item) (reply : Reply) (next : Broker) (step : StepSeen IsSeen first item reply next) (mid : D)
+  module _ (item : Option Command) (reads : ReadsAs line item) (reply : Reply) (next : Broker) (step : StepSeen (IsSeenBeside at_entry) first item reply next) (mid : D)
       (moments : Decides m (Keeps first.durable) (Keeps next.durable) old mid) (told : (account (m.tells mid)).told ≡ (account (m.tells old)).told) where
     -- the line was interrupted, and nothing is told of its reply
     pub interrupted : IsHonest (m.tells mid) → (serves : Serves LeavesBetween m first (line ∷ []) old mid) × (serves.told.part ≡ [])
@@ -213,8 +218,8 @@ module _ {D : Type 0} (m : Ghosts D) (old : D) (first : Broker) (line : List ℕ
           }
 
       -- its reply was told
-      pub answered : Changes (m.tells mid) (m.tells new) (Emits (reply_line reply) true) → ServesAll m first (line ∷ []) old new engine
-      answered changes =
+      pub answered : HasSamePages at_entry (as_read (account (m.tells mid)).files) → Changes (m.tells mid) (m.tells new) (Emits (reply_line reply) true) → ServesAll m first (line ∷ []) old new engine
+      answered pages changes =
           let emits = changes.step stands.kept in
           record {
             items = item ∷ [];
@@ -235,6 +240,7 @@ module _ {D : Type 0} (m : Ghosts D) (old : D) (first : Broker) (line : List ℕ
               quiet = λ quiet. subst AllQuiet (sym emits.files) (stays.quiet quiet);
               well = λ quiet was. subst (λ files. WellFormed (as_read files)) (sym emits.files) (stays.well quiet was);
             };
+            pages = subst (λ files. HasSamePages at_entry (as_read files)) (sym emits.files) pages;
           }
 
   -- an Err owes what was served so far
@@ -265,11 +271,12 @@ module _ {D : Type 0} (m : Ghosts D) (old : D) (first : Broker) (line : List ℕ
     pub item : Option Command
     pub reads : ReadsAs line item
     pub next : Broker
-    pub step : StepSeen IsSeen first item reply next
+    pub step : StepSeen (IsSeenBeside at_entry) first item reply next
     pub moments : Decides m (Keeps first.durable) (Keeps next.durable) old mid
     pub told : (account (m.tells mid)).told ≡ (account (m.tells old)).told
     pub stands : StandsAt engine next (m.tells mid)
     pub stays : StaysWell (m.tells old) (m.tells mid)
+    pub pages : HasSamePages at_entry (as_read (account (m.tells mid)).files)
 
   pub executed : (mid : D) (engine : Engine) (reply : Reply) → (IsErr (done_of engine reply) × (mid ≡ old)) ⊎ ((item : Option Command) × ReadsAs line item × Executes m first item old mid (Ok (engine, reply)))
       → Executed mid engine reply
@@ -279,11 +286,12 @@ module _ {D : Type 0} (m : Ghosts D) (old : D) (first : Broker) (line : List ℕ
       item = some.0;
       reads = some.1;
       next = some.2.next;
-      step = subst (λ r. StepSeen IsSeen first some.0 r some.2.next) (sym some.2.ok.0) (seen_step m first some.0 old mid (Ok (engine, reply)) some.2);
+      step = subst (λ r. StepSeen (IsSeenBeside at_entry) first some.0 r some.2.next) (sym some.2.ok.0) (seen_step m first some.0 old mid (Ok (engine, reply)) some.2);
       moments = some.2.moments;
       told = some.2.told;
       stands = some.2.ok.1;
       stays = some.2.stays;
+      pages = kept_pages (account (m.tells old)).files (account (m.tells mid)).files some.2.others;
     }
   ]
 

@@ -1,6 +1,9 @@
 pub mod AnswerLemmas
 pub mod Ending
 pub mod RunLemmas
+pub mod OneRun
 pub mod Running
 pub mod ServingLemmas
+pub mod SightLaws
+pub mod SightLemmas
 pub mod WordsLemmas

@@ -3,7 +3,6 @@ use Rattle.std.proofs.Common.{zero, suc, ◌≡◌, inl, inr, ⊎_elim, ℕ, Lis
 use Rattle.std.proofs.lemmas.List.{append-nil, take_all}
 use Rattle.std.specs.Option.{option_map}
 use Rattle.std.specs.FinMap.{FinMap, get}
-use Rattle.pg_recover.specs.Viewing.{IsSeen}
 use Rattle.pg_disk.specs.declared.disk.Disk.{Ghosts}
 use Rattle.pg_disk.specs.declared.fault.Fault.{Fault}
 use Rattle.pg_disk.specs.declared.fault.Fault.TheVariants as fault
@@ -41,8 +40,10 @@ use Rattle.pg_run.specs.declared.status.Status.TheVariants as ended
 use Rattle.pg_run.specs.Ran.{ComesToLimit, Ends, Input, IsFullBehind, IsSpared, IsUnopened, StopsAtLimit, Ran, RanOpened, ReadsInput, ServesOpened}
 use Rattle.pg_run.specs.Statuses.{Faults, IsAnyBut, IsDamagedStop, IsInputServed, StopCounts, code_of, status_of_fault, status_of_stop}
 use Rattle.pg_run.specs.Served.{Tells, IsBetween, LeavesBetween, LeavesOpenedRun, LeavesRun, Serves}
+use Rattle.pg_run.specs.Sights.{HasSamePages, IsSeenBeside}
 use Rattle.pg_run.proofs.Ending.{takes_nothing}
 use Rattle.pg_run.proofs.RunLemmas.{line_some, run_lengths}
+use Rattle.pg_run.proofs.SightLemmas.{kept_pages, run_beside}
 
 -- nothing is told yet
 begins_none : (replies : List Reply) → BeginsNext [] replies
@@ -94,7 +95,8 @@ running_left first replies states entry mid honest same quiet stays image told l
 
 module _ {D : Type 0} (m : Ghosts D) (old : D) (limits : Limits) where
   module _ (durable : Durable) (honest : IsHonest (m.tells old)) (denoted : Denotes (as_read (account (m.tells old)).files) durable) (mid : D) (same : (account (m.tells mid)).told ≡ (account (m.tells old)).told)
-      (quiet : AllQuiet (account (m.tells mid)).files) (stays : WellFormed (as_read (account (m.tells old)).files) → WellFormed (as_read (account (m.tells mid)).files)) where
+      (quiet : AllQuiet (account (m.tells mid)).files) (stays : WellFormed (as_read (account (m.tells old)).files) → WellFormed (as_read (account (m.tells mid)).files))
+      (pages : HasSamePages (as_read (account (m.tells old)).files) (as_read (account (m.tells mid)).files)) where
     abbrev first : Broker
     first = opened_from limits.ids durable
 
@@ -132,7 +134,7 @@ module _ {D : Type 0} (m : Ghosts D) (old : D) (limits : Limits) where
       replies = s.replies;
       states = s.states;
       read = s.read;
-      run = s.run;
+      run = run_beside (as_read (account (m.tells old)).files) (as_read (account (m.tells mid)).files) pages first s.items s.replies s.states s.run;
       moments = opened_moments new s.replies s.states opening s.moments;
       kept = s.kept;
       n = s.n;
@@ -166,20 +168,24 @@ module _ {D : Type 0} (m : Ghosts D) (old : D) (limits : Limits) where
         let here = stays.kept honest in
         subst Owed (stands_opened mid engine (opens honest) durable denoted) (ran.serves here, ran.ends here, ran.full here)
 
+    -- the opening leaves the pages
+    same_pages : IsHonest (m.tells old) → HasSamePages (as_read (account (m.tells old)).files) (as_read (account (m.tells mid)).files)
+    same_pages honest = kept_pages (account (m.tells old)).files (account (m.tells mid)).files (stays.step honest).change
+
     pub opened_ran : Within m old mid (OnceQuiet LeavesEpoch) → WithinFrom m AnyFile old mid LeavesEpoch → RanOpened m limits input old new status
     opened_ran opening once = record {
       reading = ran.reading;
-      serves = λ durable honest denoted. opened_serves durable honest denoted mid (stays.step honest).told (opens honest).quiet (opens honest).well opening (owed durable honest denoted).0;
+      serves = λ durable honest denoted. opened_serves durable honest denoted mid (stays.step honest).told (opens honest).quiet (opens honest).well (same_pages honest) opening (owed durable honest denoted).0;
       ends = λ durable honest denoted.
           let is = owed durable honest denoted in
-          opened_ends durable honest denoted mid (stays.step honest).told (opens honest).quiet (opens honest).well status opening is.0 is.1;
+          opened_ends durable honest denoted mid (stays.step honest).told (opens honest).quiet (opens honest).well (same_pages honest) status opening is.0 is.1;
       full = λ durable honest denoted is.
           let o = owed durable honest denoted in
           let stops = o.2 is in
           inr (record { all = stops.all; full = stops.full });
       late = λ durable honest denoted other.
           let serves = (owed durable honest denoted).0 in
-          late_moments durable honest denoted mid (stays.step honest).told (opens honest).quiet (opens honest).well new serves.replies serves.states once serves.moments;
+          late_moments durable honest denoted mid (stays.step honest).told (opens honest).quiet (opens honest).well (same_pages honest) new serves.replies serves.states once serves.moments;
     }
 
   not_served : (fault : Fault) → IsInputServed (status_of_fault fault) → ⊥
@@ -267,7 +273,7 @@ input_served m limits input old new ran honest durable denoted bytes is =
     let s = ran.serves durable honest denoted in
     let e = ran.ends durable honest denoted in
     let all = e.all (inl refl) in
-    let sizes = run_lengths IsSeen (opened_from limits.ids durable) s.items s.replies s.states s.run in
+    let sizes = run_lengths (IsSeenBeside (as_read (account (m.tells old)).files)) (opened_from limits.ids durable) s.items s.replies s.states s.run in
     let to_end = reading.to_end refl in (
       end,
       record {
@@ -297,8 +303,8 @@ drop_more zero lines more others line is = ap (λ (ls : List (List ℕ)). ls ++ 
 drop_more (suc n) [] more others line is = cc
 drop_more (suc n) (l ∷ lines) more others line is = drop_more n lines more others line is
 
-limit_longer : {D : Type 0} (m : Ghosts D) (first : Broker) (lines more : List (List ℕ)) (new : D) → ComesToLimit m first lines new → ComesToLimit m first (lines ++ more) new
-limit_longer m first lines more new comes = record {
+limit_longer : {D : Type 0} (m : Ghosts D) (first : Broker) (lines more : List (List ℕ)) (old new : D) → ComesToLimit m first lines old new → ComesToLimit m first (lines ++ more) old new
+limit_longer m first lines more old new comes = record {
   items = comes.items;
   replies = comes.replies;
   states = comes.states;
@@ -329,7 +335,7 @@ module _ {D : Type 0} (m : Ghosts D) (limits : Limits) (input : Input) (old new 
   denotes_well = record { state = spared.well.state; folds = spared.well.folds; is = refl }
 
   -- no line of a front of the input is one that meets a limit
-  not_full : (status : ℕ) (reading : ReadsInput input status) → (status ≡ 7 → ⊥) → ComesToLimit m opened reading.lines new → ⊥
+  not_full : (status : ℕ) (reading : ReadsInput input status) → (status ≡ 7 → ⊥) → ComesToLimit m opened reading.lines old new → ⊥
   not_full status reading short comes =
       let given = reading.source spared.bytes spared.told in
       let all_read : take input.limit reading.read ≡ reading.read = take_all input.limit reading.read (reading.within short) in
@@ -340,13 +346,13 @@ module _ {D : Type 0} (m : Ghosts D) (limits : Limits) (input : Input) (old new 
       = given.2 ∙ (ap (λ (l : List ℕ). l ++ given.0) (sym all_read ∙ reading.cut.joined) ∙ append_assoc (ended reading.whole) reading.behind given.0) in
       spared.room durable denotes_well (reading.whole ++ more.whole) more.behind
       (subst (λ (text : List ℕ). IsCut text (reading.whole ++ more.whole) more.behind) (sym joined) (cut_then reading.whole (reading.behind ++ given.0) more.whole more.behind reading.cut.whole_lines more.cut))
-      (subst (λ (lines : List (List ℕ)). ComesToLimit m opened lines new) (sym (lines_longer reading.whole more.whole more.behind))
-      (limit_longer m opened reading.whole (lines_of more.whole more.behind) new (subst (λ (lines : List (List ℕ)). ComesToLimit m opened lines new) is comes))))
+      (subst (λ (lines : List (List ℕ)). ComesToLimit m opened lines old new) (sym (lines_longer reading.whole more.whole more.behind))
+      (limit_longer m opened reading.whole (lines_of more.whole more.behind) old new (subst (λ (lines : List (List ℕ)). ComesToLimit m opened lines old new) is comes))))
       (λ is.
       let none : given.0 ≡ [] = some_same given.0 [] (sym given.1 ∙ is.1 spared.bytes spared.told) in
       let same : take input.limit reading.read ≡ spared.bytes = all_read ∙ (sym (append-nil reading.read) ∙ (ap (λ (ys : List ℕ). reading.read ++ ys) (sym none) ∙ sym given.2)) in
       spared.room durable denotes_well reading.whole reading.behind (subst (λ (text : List ℕ). IsCut text reading.whole reading.behind) same reading.cut)
-      (subst (λ (lines : List (List ℕ)). ComesToLimit m opened lines new) is.0 comes))
+      (subst (λ (lines : List (List ℕ)). ComesToLimit m opened lines old new) is.0 comes))
       reading.which
 
   pub completes : (stop : Stop) → StopCounts stop f → (IsDamagedStop stop → AreIllFormed (m.tells old)) → RanOpened m limits input old new (status_of_stop stop) → status_of_stop stop ≡ 6

@@ -21,12 +21,12 @@ use Rattle.pg_model.specs.Steps.{Run, last_state}
 use Rattle.pg_recover.specs.Denotation.{Denotes}
 use Rattle.pg_recover.specs.Recovered.{HasNoEpoch, KeepsFiles}
 use Rattle.pg_recover.specs.Staying.{StaysWell}
-use Rattle.pg_recover.specs.Viewing.{IsSeen}
 use Rattle.pg_recover.specs.WellFormed.{WellFormed}
 use Rattle.pg_engine.specs.declared.engine.Engine.{Engine}
 use Rattle.pg_engine.specs.Executed.{StandsAt, MeetsLimit}
 use Rattle.pg_run.specs.declared.status.Status.TheVariants as ended
 use Rattle.pg_run.specs.Served.{LeavesBetween, LeavesOpenedRun, LeavesRun, Serves}
+use Rattle.pg_run.specs.Sights.{IsSeenBeside}
 use Rattle.pg_run.specs.Statuses.{Faults, IsAnyBut, IsInputServed, NoneFailed, code_of}
 
 -- an input: what was left of it at entry and at exit, where that is told, and how many bytes of it are read at most
@@ -81,13 +81,14 @@ pub record IsFullBehind {D : Type 0} (m : Ghosts D) (state : Broker) (lines : Li
   pub next : lines ≡ line ∷ others
   pub full : IsFull m state line new
 
--- the run over these lines comes to such a line
-pub record ComesToLimit {D : Type 0} (m : Ghosts D) (first : Broker) (lines : List (List ℕ)) (new : D) : Type 0 where
+-- the run over these lines, beside the pages that are there at entry, comes to such a line
+pub record ComesToLimit {D : Type 0} (m : Ghosts D) (first : Broker) (lines : List (List ℕ)) (old new : D)
+    : Type 0 where
   pub items : List (Option Command)
   pub replies : List Reply
   pub states : List Broker
   pub read : ReadAs lines items
-  pub run : Run IsSeen first items replies states
+  pub run : Run (IsSeenBeside (as_read (account (m.tells old)).files)) first items replies states
   pub full : IsFullBehind m (last_state first states) (drop (length items) lines) new
 
 -- A run that served all its items stopped at such a line.
@@ -130,8 +131,8 @@ pub record RanOpened {D : Type 0} (m : Ghosts D) (limits : Limits) (input : Inpu
       → WithinFrom m AnyFile old new (LeavesRun (opened_from limits.ids durable) (serves durable honest denoted).replies
       (serves durable honest denoted).states)
 
--- An input that was told is served to its end: each of its lines is one step, the replies are told and nothing else,
--- and the files read as the last state's durable part.
+-- An input that was told is served to its end: each of its lines is one step, beside the pages that are there at entry,
+-- the replies are told and nothing else, and the files read as the last state's durable part.
 pub record ServesInput (first : Broker) (input : List ℕ) (old new : Account) : Type 0 where
   pub whole : List (List ℕ)
   pub behind : List ℕ
@@ -141,7 +142,7 @@ pub record ServesInput (first : Broker) (input : List ℕ) (old new : Account) :
   pub states : List Broker
   pub read : ReadAs (lines_of whole behind) items
   pub all : length items ≡ length (lines_of whole behind)
-  pub run : Run IsSeen first items replies states
+  pub run : Run (IsSeenBeside (as_read old.files)) first items replies states
   pub told : new.told ≡ old.told ++ reply_bytes replies
   pub denoted : Denotes (as_left (reads new.files)) (last_state first states).durable
 
@@ -165,4 +166,4 @@ pub record IsSpared {D : Type 0} (m : Ghosts D) (limits : Limits) (input : Input
   pub short : length bytes ≤ input.limit
   pub room : (durable : Durable) → Denotes (as_read (account (m.tells old)).files) durable
       → (whole : List (List ℕ)) (behind : List ℕ) → IsCut bytes whole behind
-      → ComesToLimit m (opened_from limits.ids durable) (lines_of whole behind) new → ⊥
+      → ComesToLimit m (opened_from limits.ids durable) (lines_of whole behind) old new → ⊥

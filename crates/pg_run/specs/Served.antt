@@ -15,9 +15,9 @@ use Rattle.pg_model.specs.Broker.{Durable, Broker}
 use Rattle.pg_model.specs.Steps.{Run, last_state}
 use Rattle.pg_recover.specs.Denotation.{Denotes}
 use Rattle.pg_recover.specs.Staying.{LeavesWell, StaysWell}
-use Rattle.pg_recover.specs.Viewing.{IsSeen}
 use Rattle.pg_recover.specs.WellFormed.{WellFormed}
 use Rattle.pg_engine.specs.Executed.{StandsAt}
+use Rattle.pg_run.specs.Sights.{HasSamePages, IsSeenBeside}
 
 -- the first n replies are told whole, and of the next one a part that isn't the whole
 pub record Tells (replies : List Reply) (n : ℕ) (told : List ℕ) : Type 0 where
@@ -60,15 +60,15 @@ pub record LeavesRun (first : Broker) (replies : List Reply) (states : List Brok
 abbrev pub LeavesOpenedRun : Broker → List Reply → List Broker → Option Account → Files → List ℕ → Type 0
 LeavesOpenedRun first replies states = OnceQuiet (LeavesRun first replies states)
 
--- One run over the first of the lines, with every moment in it. The last line of the run may have been interrupted: its
--- reply was then not told, or not the whole of it.
+-- One run over the first of the lines, beside the pages that are there at entry, with every moment in it. The last line
+-- of the run may have been interrupted: its reply was then not told, or not the whole of it.
 pub record Serves {D : Type 0} (leaving : Broker → List Reply → List Broker → Option Account → Files → List ℕ → Type 0)
     (m : Ghosts D) (first : Broker) (lines : List (List ℕ)) (old new : D) : Type 0 where
   pub items : List (Option Command)
   pub replies : List Reply
   pub states : List Broker
   pub read : ReadAs lines items
-  pub run : Run IsSeen first items replies states
+  pub run : Run (IsSeenBeside (as_read (account (m.tells old)).files)) first items replies states
   pub moments : Within m old new (leaving first replies states)
   pub kept : IsHonest (m.tells new)
   pub n : ℕ
@@ -77,7 +77,7 @@ pub record Serves {D : Type 0} (leaving : Broker → List Reply → List Broker 
   pub bytes : (account (m.tells new)).told ≡ (account (m.tells old)).told ++ more
   pub told : Tells replies n more
 
--- All lines were served: each reply is told whole, and the engine stands for the last state.
+-- All lines were served: each reply is told whole, the engine stands for the last state, and the pages are as at entry.
 pub record ServesAll {D : Type 0} (m : Ghosts D) (first : Broker) (lines : List (List ℕ)) (old new : D)
     (engine : Engine) : Type 0 where
   pub items : List (Option Command)
@@ -85,8 +85,9 @@ pub record ServesAll {D : Type 0} (m : Ghosts D) (first : Broker) (lines : List 
   pub states : List Broker
   pub read : ReadAs lines items
   pub all : length items ≡ length lines
-  pub run : Run IsSeen first items replies states
+  pub run : Run (IsSeenBeside (as_read (account (m.tells old)).files)) first items replies states
   pub moments : Within m old new (LeavesBetween first replies states)
   pub told : (account (m.tells new)).told ≡ (account (m.tells old)).told ++ reply_bytes replies
   pub stands : StandsAt engine (last_state first states) (m.tells new)
   pub stays : StaysWell (m.tells old) (m.tells new)
+  pub pages : HasSamePages (as_read (account (m.tells old)).files) (as_read (account (m.tells new)).files)

@@ -2,11 +2,13 @@
 #![tactic(auto)]
 
 mod answer;
+mod laws;
 mod program;
 mod run;
 mod serving;
 mod status;
 
+pub use laws::{one_run, one_view};
 pub use pg_msg::{LIMITS, Limits};
 pub use program::pagebroker;
 pub use serving::serve;

@@ -36,4 +36,4 @@ returns-clause-answers g c honest =
     let same : c.as_slice.result.now ≡ reply_line c.in_ok-engine.reply = c.as_slice.ensures.value ∙ c.in_ok-text.ensures in
     answered g.S.Disk c.args.site.now (state_of c.args.engine) c.args.line.now honest done.item done.reads c.in_ok-engine.reply done.next done.step c.exec_line.new.disk done.moments done.told
     c.in_ok-engine.engine done.stands done.stays c.tell.new.site (subst (λ (l : List ℕ). Within g.S.Disk c.exec_line.new.disk c.tell.new.site (LeavesPrefix l)) same c.tell.ensures.any_moment)
-    (subst (λ (l : List ℕ). Changes (g.S.Disk.tells c.exec_line.new.disk) (g.S.Disk.tells c.tell.new.site) (Emits l true)) same c.in_ok-tell.ensures.told)
+    done.pages (subst (λ (l : List ℕ). Changes (g.S.Disk.tells c.exec_line.new.disk) (g.S.Disk.tells c.tell.new.site) (Emits l true)) same c.in_ok-tell.ensures.told)

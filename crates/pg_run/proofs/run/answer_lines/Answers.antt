@@ -71,3 +71,6 @@ returns-in_ok-answer-clause-ran g c = ended_served g.S.Disk (state_of c.args.eng
 pub returns-else-not-is_empty-clause-ran : goal.returns-else-not-is_empty-clause-ran
 returns-else-not-is_empty-clause-ran g c = ended_empty g.S.Disk (state_of c.args.engine) c.args.limit c.args.site.now (g.R.Source.rest c.args.source.now) c.lines.site (g.R.Source.rest c.lines.source) c.lines.reader c.lines.engine c.lines.invariant.so_far
     c.next_line.new.self (g.R.Source.rest c.next_line.new.source) c.next_line.new.line.items (subst (λ (b : Bool). TookLine c.lines.reader c.next_line.new.self (g.R.Source.rest c.lines.source) (g.R.Source.rest c.next_line.new.source) c.next_line.new.line.items b) c.if-branch.false c.in_ok-next_line.ensures.line) (no_line c.next_line.new.line.items _ _ c.next_line.new.line.ok.0 c.is_empty.ensures c.if-not-is_empty.false)
+
+pub returns-in_ok-answer-clause-back : goal.returns-in_ok-answer-clause-back
+returns-in_ok-answer-clause-back g c honest = c.lines.invariant.so_far.back (c.answer-then-not-is_empty.ensures.back honest)
