@@ -4,12 +4,12 @@ use std::alloc::{AllocError, Global};
 use std::test::Fail;
 
 const SCRIPT: &[u8] =
-    b"address A max 50 page 100 ahead 0 dup 0\nqueue Q on A\nqueue Q on A\nsend A body x\ncount Q\n";
+    b"address A max 50 page 100 ahead 0 dup 0\nqueue Q on A\nqueue Q on A\nsend A body x\ncount Q\nconsumer C on Q\nreceive C\nack C 1-1\n";
 
-const REPLIES: &[u8] = b"ok\nok\nno name\nsent 1-1\ncount 1\n";
+const REPLIES: &[u8] = b"ok\nok\nno name\nsent 1-1\ncount 1\nok\nmsg 1-1 hex 78\nok\n";
 
 /// Two listings, a create, and a write and a sync for the first gate; two writes and two syncs for each batch.
-const CALLS: u64 = 21;
+const CALLS: u64 = 25;
 
 /// Whether a whole run tells the replies in so many calls.
 fn runs_through(alloc: Global) -> Result<bool, AllocError> {
@@ -44,12 +44,18 @@ fn each_failing_call_of_the_disk_ends_the_run(rt: HostRuntime) -> Result<(), Fai
 }
 
 /// The number of an emit, and what is told where it fails.
-const EMITS: [(u64, &[u8]); 5] = [
+const EMITS: [(u64, &[u8]); 8] = [
     (1, b""),
     (2, b"ok\n"),
     (3, b"ok\nok\n"),
     (4, b"ok\nok\nno name\n"),
     (5, b"ok\nok\nno name\nsent 1-1\n"),
+    (6, b"ok\nok\nno name\nsent 1-1\ncount 1\n"),
+    (7, b"ok\nok\nno name\nsent 1-1\ncount 1\nok\n"),
+    (
+        8,
+        b"ok\nok\nno name\nsent 1-1\ncount 1\nok\nmsg 1-1 hex 78\n",
+    ),
 ];
 
 /// Whether the run ends where the emit of this number fails, when this was told.

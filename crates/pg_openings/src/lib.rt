@@ -2,6 +2,8 @@
 #![tactic(auto)]
 
 #[cfg(test)]
+mod deliveries;
+#[cfg(test)]
 mod generations;
 #[cfg(test)]
 mod openings;

@@ -83,7 +83,7 @@ pub(crate) fn crash_at(
 const RUNS: [(&[u8], &[u8]); 3] = [
     (
         EXAMPLE,
-        b"ok\nok\nsent 1-1\nsent 1-2\nsent 1-3\nno line\ncount 3\nno line\n",
+        b"ok\nok\nsent 1-1\nsent 1-2\nsent 1-3\nno line\ncount 3\nno consumer\n",
     ),
     (
         b"queue R on A\ncount Q\ncount R\nsend A body x\naddress A max 1 page 1 ahead 0 dup 0\n",

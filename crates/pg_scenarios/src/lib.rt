@@ -5,6 +5,8 @@
 #[cfg(test)]
 mod bytewise;
 #[cfg(test)]
+mod consumers;
+#[cfg(test)]
 mod messages;
 #[cfg(test)]
 mod scripts;

@@ -4,8 +4,8 @@ use std::alloc::{AllocError, Global};
 use std::test::Fail;
 
 /// A line, its reply, how many syncs of the journal it takes, and by how many bytes the journal grows: by 44 for an address,
-/// by 22 for a queue, and by 40 for a message of five bytes at one queue.
-const LINES: [(&[u8], &[u8], u64, usize); 8] = [
+/// by 22 for a queue and for an acknowledgement, and by 40 for a message of five bytes at one queue.
+const LINES: [(&[u8], &[u8], u64, usize); 16] = [
     (b"address A max 50 page 100 ahead 0 dup 0\n", b"ok\n", 2, 44),
     (b"queue Q on A\n", b"ok\n", 2, 22),
     (b"send A body aaaaa\n", b"sent 1-1\n", 2, 40),
@@ -13,7 +13,15 @@ const LINES: [(&[u8], &[u8], u64, usize); 8] = [
     (b"send A body aaaaa\n", b"sent 1-3\n", 2, 40),
     (b"send A body aaaaa\n", b"no line\n", 0, 0),
     (b"count Q\n", b"count 3\n", 0, 0),
-    (b"receive C\n", b"no line\n", 0, 0),
+    (b"receive C\n", b"no consumer\n", 0, 0),
+    (b"consumer C on Q\n", b"ok\n", 0, 0),
+    (b"receive C\n", b"msg 1-1 hex 6161616161\n", 0, 0),
+    (b"cancel C 1-1\n", b"ok\n", 0, 0),
+    (b"receive C\n", b"msg 1-1 hex 6161616161\n", 0, 0),
+    (b"ack C 1-1\n", b"ok\n", 2, 22),
+    (b"ack C 1-1\n", b"no delivery\n", 0, 0),
+    (b"close C\n", b"ok\n", 0, 0),
+    (b"count Q\n", b"count 2\n", 0, 0),
 ];
 
 /// How many calls of the site synced the journal.
@@ -61,7 +69,7 @@ fn length_at_end(alloc: Global) -> Result<Option<usize>, AllocError> {
 }
 
 #[test]
-fn each_accepted_line_is_two_syncs(rt: HostRuntime) -> Result<(), Fail> {
-    assert!(rt; length_at_end(rt.alloc())? == Some(201));
+fn each_line_that_the_journal_gets_is_two_syncs(rt: HostRuntime) -> Result<(), Fail> {
+    assert!(rt; length_at_end(rt.alloc())? == Some(223));
     Ok(())
 }

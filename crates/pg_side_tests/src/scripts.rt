@@ -13,6 +13,8 @@ const ADDRESSES: [&str; 3] = ["A", "B", "C"];
 
 const QUEUES: [&str; 4] = ["Q", "R", "S", "T"];
 
+const CONSUMERS: [&str; 3] = ["C", "D", "E"];
+
 /// What stands between the address of a message and its body.
 const PROPERTIES: [&str; 5] = [
     "",
@@ -22,8 +24,15 @@ const PROPERTIES: [&str; 5] = [
     " prop region 'EU' prop total 250",
 ];
 
-/// A script that doesn't begin so may have no queue for long.
-const BEGINNING: [&str; 2] = ["address A max 10000 page 100 ahead 0 dup 0", "queue Q on A"];
+/// A run that doesn't begin so may have no queue for long, or no consumer.
+const BEGINNING: [&str; 3] = [
+    "address A max 10000 page 100 ahead 0 dup 0",
+    "queue Q on A",
+    "consumer C on Q",
+];
+
+/// More messages than any queue has at the end of a script.
+const RECEIVES: u32 = 24;
 
 const DIGITS: [u8; 22] = *b"0123456789abcdefABCDEF";
 
@@ -54,6 +63,12 @@ fn queue_name(rng: &mut Pcg32) -> &'static str {
     QUEUES[one.min(other) as usize]
 }
 
+fn consumer_name(rng: &mut Pcg32) -> &'static str {
+    let one = rng.next_u32() % 3;
+    let other = rng.next_u32() % 3;
+    CONSUMERS[one.min(other) as usize]
+}
+
 fn properties(rng: &mut Pcg32) -> &'static str {
     PROPERTIES[(rng.next_u32() % 5) as usize]
 }
@@ -75,7 +90,32 @@ fn queue_line(alloc: Global, rng: &mut Pcg32) -> Result<Octets, AllocError> {
     Octets::from_slice(alloc, line.as_bytes())
 }
 
-/// A line that has one word and a queue's name.
+fn consumer_line(alloc: Global, rng: &mut Pcg32) -> Result<Octets, AllocError> {
+    let name = consumer_name(rng);
+    let queue = queue_name(rng);
+    let line = format!(in alloc; "consumer {name} on {queue}")?;
+    Octets::from_slice(alloc, line.as_bytes())
+}
+
+/// A line that has one word, a consumer's name, and the id of a message that may be there: one of the first four numbers of this
+/// epoch or, of four times once, of any up to it. The lower numbers are drawn more often.
+fn delivery_line(
+    alloc: Global,
+    word: &str,
+    epoch: u32,
+    rng: &mut Pcg32,
+) -> Result<Octets, AllocError> {
+    let name = consumer_name(rng);
+    let any = 1 + rng.next_u32() % epoch.max(1);
+    let of = if rng.next_u32() % 4 == 0 { any } else { epoch };
+    let one = rng.next_u32() % 4;
+    let other = rng.next_u32() % 4;
+    let number = 1 + one.min(other);
+    let line = format!(in alloc; "{word} {name} {of}-{number}")?;
+    Octets::from_slice(alloc, line.as_bytes())
+}
+
+/// A line that has one word and a name.
 fn line_on(alloc: Global, word: &str, name: &str) -> Result<Octets, AllocError> {
     let line = format!(in alloc; "{word} {name}")?;
     Octets::from_slice(alloc, line.as_bytes())
@@ -124,8 +164,8 @@ fn send_line(alloc: Global, rng: &mut Pcg32) -> Result<Octets, AllocError> {
     Ok(Octets::from_vec(line))
 }
 
-/// Some line of the commands that the program serves. Two in five send a message.
-fn any_line(alloc: Global, rng: &mut Pcg32) -> Result<Octets, AllocError> {
+/// Some line of the commands on addresses and queues. Two in five send a message.
+fn sending_line(alloc: Global, rng: &mut Pcg32) -> Result<Octets, AllocError> {
     match rng.next_u32() % 20 {
         0..=3 => address_line(alloc, rng),
         4..=7 => queue_line(alloc, rng),
@@ -135,10 +175,30 @@ fn any_line(alloc: Global, rng: &mut Pcg32) -> Result<Octets, AllocError> {
     }
 }
 
-/// What a script of an odd number begins with.
+/// Some line of the commands on consumers.
+fn consuming_line(alloc: Global, epoch: u32, rng: &mut Pcg32) -> Result<Octets, AllocError> {
+    match rng.next_u32() % 16 {
+        0..=2 => consumer_line(alloc, rng),
+        3..=8 => line_on(alloc, "receive", consumer_name(rng)),
+        9..=12 => delivery_line(alloc, "ack", epoch, rng),
+        13..=14 => delivery_line(alloc, "cancel", epoch, rng),
+        _ => line_on(alloc, "close", consumer_name(rng)),
+    }
+}
+
+/// Some line of the commands that the program serves, in the run of that epoch.
+fn any_line(alloc: Global, epoch: u32, rng: &mut Pcg32) -> Result<Octets, AllocError> {
+    if rng.next_u32() % 2 == 0 {
+        sending_line(alloc, rng)
+    } else {
+        consuming_line(alloc, epoch, rng)
+    }
+}
+
+/// What each run of a script begins with, but for every fourth script.
 fn beginning(alloc: Global, number: u64) -> Result<Vec<Octets>, AllocError> {
     let mut lines = Vec::new(alloc);
-    if number % 2 == 1 {
+    if number % 4 != 0 {
         for line in BEGINNING {
             lines.push(Octets::from_slice(alloc, line.as_bytes())?)?;
         }
@@ -146,35 +206,50 @@ fn beginning(alloc: Global, number: u64) -> Result<Vec<Octets>, AllocError> {
     Ok(lines)
 }
 
-/// 10 to 15 lines more.
-fn put_lines(alloc: Global, lines: &mut Vec<Octets>, rng: &mut Pcg32) -> Result<(), AllocError> {
-    for _ in 0..10 + rng.next_u32() % 6 {
-        lines.push(any_line(alloc, rng)?)?;
+/// 24 to 39 lines more, in the run of that epoch.
+fn put_lines(
+    alloc: Global,
+    lines: &mut Vec<Octets>,
+    epoch: u32,
+    rng: &mut Pcg32,
+) -> Result<(), AllocError> {
+    for _ in 0..24 + rng.next_u32() % 16 {
+        lines.push(any_line(alloc, epoch, rng)?)?;
     }
     Ok(())
 }
 
-/// The lines that ask for the count of every queue.
-fn counts(alloc: Global) -> Result<Vec<Octets>, AllocError> {
+/// Lines that ask for all that a queue of that name has: its count, and message after message, for a consumer of its own.
+fn put_receives(alloc: Global, lines: &mut Vec<Octets>, name: &str) -> Result<(), AllocError> {
+    lines.push(line_on(alloc, "count", name)?)?;
+    let line = format!(in alloc; "consumer {name} on {name}")?;
+    lines.push(Octets::from_slice(alloc, line.as_bytes())?)?;
+    for _ in 0..RECEIVES {
+        lines.push(line_on(alloc, "receive", name)?)?;
+    }
+    Ok(())
+}
+
+/// The lines that ask for all that every queue has.
+fn receives(alloc: Global) -> Result<Vec<Octets>, AllocError> {
     let mut lines = Vec::new(alloc);
     for name in QUEUES {
-        lines.push(line_on(alloc, "count", name)?)?;
+        put_receives(alloc, &mut lines, name)?;
     }
     Ok(lines)
 }
 
-/// The script of that number: two or three runs, and one more that counts the messages of every queue. In every third script
-/// an epoch has two message ids.
+/// The script of that number: two or three runs, and one more that asks for all that every queue has. In every third script an
+/// epoch has two message ids.
 pub(crate) fn made_script(alloc: Global, number: u64) -> Result<Script, AllocError> {
     let mut rng = Pcg32::new(number, STREAM);
     let mut runs = Vec::new(alloc);
-    let mut lines = beginning(alloc, number)?;
-    for _ in 0..2 + rng.next_u32() % 2 {
-        put_lines(alloc, &mut lines, &mut rng)?;
+    for run in 0..2 + rng.next_u32() % 2 {
+        let mut lines = beginning(alloc, number)?;
+        put_lines(alloc, &mut lines, run + 1, &mut rng)?;
         runs.push(lines)?;
-        lines = Vec::new(alloc);
     }
-    runs.push(counts(alloc)?)?;
+    runs.push(receives(alloc)?)?;
     let ids = if number % 3 == 0 { 2 } else { LIMITS.ids };
     Ok(Script { ids, runs })
 }

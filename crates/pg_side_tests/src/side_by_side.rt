@@ -138,61 +138,91 @@ fn the_program_answers_as_the_unpaged_broker_does(rt: HostRuntime) -> Result<(),
     Ok(())
 }
 
-/// How the replies to the commands begin, each kind of them, and some counts.
-const KINDS: [&str; 11] = [
-    "ok\n",
-    "sent 1-",
-    "sent 2-",
-    "unrouted\n",
-    "count 0\n",
-    "count 1\n",
-    "count 2\n",
-    "no name\n",
-    "no address\n",
-    "no queue\n",
-    "no ids\n",
+/// How a line and the reply to it begin.
+type Told = (&'static str, &'static str);
+
+/// Each kind of a reply to the commands, and some lines and counts.
+const KINDS: [Told; 27] = [
+    ("", "ok\n"),
+    ("drop ", "ok\n"),
+    ("consumer ", "ok\n"),
+    ("ack ", "ok\n"),
+    ("cancel ", "ok\n"),
+    ("close ", "ok\n"),
+    ("", "sent 1-"),
+    ("", "sent 2-"),
+    ("", "unrouted\n"),
+    ("", "count 0\n"),
+    ("", "count 1\n"),
+    ("", "count 2\n"),
+    ("", "msg 1-"),
+    ("", "msg 2-"),
+    ("", "empty\n"),
+    ("", "no name\n"),
+    ("consumer ", "no name\n"),
+    ("", "no address\n"),
+    ("", "no queue\n"),
+    ("consumer ", "no queue\n"),
+    ("", "no consumer-open\n"),
+    ("", "no ids\n"),
+    ("receive ", "no consumer\n"),
+    ("ack ", "no consumer\n"),
+    ("close ", "no consumer\n"),
+    ("ack ", "no delivery\n"),
+    ("cancel ", "no delivery\n"),
 ];
 
 /// At least so many replies are of each kind.
 const AT_LEAST: usize = 20;
 
-/// How many of the replies are of that kind.
-fn count_in(replies: &[Octets], kind: &str) -> usize {
-    let mut count = 0usize;
-    for reply in replies {
-        if reply.as_slice().starts_with(kind.as_bytes()) {
-            count = count.saturating_add(1);
+/// Whether the line and the reply to it are of that kind.
+fn is_of(line: &[u8], reply: &[u8], kind: &Told) -> bool {
+    line.starts_with(kind.0.as_bytes()) && reply.starts_with(kind.1.as_bytes())
+}
+
+/// Adds the line and the reply to it to the count of each kind that they are of.
+fn add_line(counts: &mut [usize], line: &[u8], reply: &[u8]) {
+    for (count, kind) in counts.iter_mut().zip(KINDS.iter()) {
+        if is_of(line, reply, kind) {
+            *count = count.saturating_add(1);
         }
     }
-    count
 }
 
-/// How many of the replies to the script are of that kind.
-fn count_to(alloc: Global, number: u64, kind: &str) -> Result<usize, AllocError> {
-    let Some(all) = unpaged(alloc, &made_script(alloc, number)?)? else {
-        return Ok(0);
+fn add_run(counts: &mut [usize], lines: &[Octets], replies: &[Octets]) {
+    for (line, reply) in lines.iter().zip(replies.iter()) {
+        add_line(counts, line.as_slice(), reply.as_slice());
+    }
+}
+
+/// Adds the lines of the script and the replies to them, but for its last run, which only asks for what is there.
+fn add_script(alloc: Global, counts: &mut [usize], script: &Script) -> Result<(), AllocError> {
+    let Some(all) = unpaged(alloc, script)? else {
+        return Ok(());
     };
-    let mut count = 0usize;
-    for replies in &all {
-        count = count.saturating_add(count_in(replies.as_slice(), kind));
+    let runs = script.runs.len().saturating_sub(1);
+    for (lines, replies) in script.runs.iter().zip(all.iter()).take(runs) {
+        add_run(counts, lines.as_slice(), replies.as_slice());
     }
-    Ok(count)
+    Ok(())
 }
 
-/// How many of all replies are of that kind.
-fn count_of(alloc: Global, kind: &str) -> Result<usize, AllocError> {
-    let mut count = 0usize;
+/// How many lines of all scripts are of each kind.
+fn counts_of_kinds(alloc: Global) -> Result<Vec<usize>, AllocError> {
+    let mut counts = vec![in alloc; 0usize; KINDS.len()]?;
     for number in 1..LAST + 1 {
-        count = count.saturating_add(count_to(alloc, number, kind)?);
+        let script = made_script(alloc, number)?;
+        add_script(alloc, counts.as_mut_slice(), &script)?;
     }
-    Ok(count)
+    Ok(counts)
 }
 
-/// The first kind that fewer replies are of.
-fn first_rare(alloc: Global) -> Result<Option<&'static str>, AllocError> {
-    for kind in KINDS {
-        if count_of(alloc, kind)? < AT_LEAST {
-            return Ok(Some(kind));
+/// The first kind that fewer lines are of.
+fn first_rare(alloc: Global) -> Result<Option<Told>, AllocError> {
+    let counts = counts_of_kinds(alloc)?;
+    for (count, kind) in counts.iter().zip(KINDS.iter()) {
+        if *count < AT_LEAST {
+            return Ok(Some(*kind));
         }
     }
     Ok(None)
