@@ -1,4 +1,5 @@
 pub mod Tables
 pub mod Values
 pub mod Truth
+pub mod Matching
 pub mod Seen

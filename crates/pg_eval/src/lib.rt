@@ -10,5 +10,5 @@ mod tri;
 mod value;
 
 pub use evaluation::{eval, matches};
-pub use laws::as_in_logic;
+pub use laws::{as_in_logic, one_match};
 pub use tri::Tri;

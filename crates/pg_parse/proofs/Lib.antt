@@ -1,5 +1,6 @@
 pub mod Chains
 pub mod FilterLaws
+pub mod FilterTextLaws
 pub mod Languages
 pub mod Leaves
 pub mod Phrases

@@ -1,3 +1,4 @@
 pub mod Filters
+pub mod FilterTexts
 pub mod Grammar
 pub mod Parsing

@@ -1,9 +1,10 @@
 // From the text of a filter to its tree.
-ghost use Rattle.std.specs.Prelude.{◌≡◌, ℕ, List, IfOk, IfErr};
+ghost use Rattle.std.specs.Prelude.{◌≡◌, ℕ, [], List, Option, IfOk, IfErr};
 ghost use Rattle.pg_parse.specs.declared.tree.Tree.{Tree as TreeOf};
 ghost use Rattle.pg_parse.specs.Grammar.{ReadsWords};
 ghost use Rattle.pg_parse.specs.Parsing.{IsReadAs, IsRefusedWith};
 ghost use Rattle.pg_parse.specs.Filters.{Reads, IsBadAt, IsCause, IsTreeOrMemory, offset_of};
+ghost use Rattle.pg_parse.specs.FilterTexts.{ReadsAs, IsFilterOrMemory};
 
 use crate::parser::or_phrase;
 use crate::refusal::{FilterError, Refusal};
@@ -37,6 +38,28 @@ pub fn parse(alloc: Global, filter: &str) -> Result<Tree, FilterError>
         }),
     }
 }
+
+/// The filter that a queue keeps as this text: none where the text is empty. BadFilter comes exactly where the text is
+/// neither empty nor a filter, with the offset that `parse` tells.
+pub fn filter_of(alloc: Global, text: &str) -> Result<Option<Tree>, FilterError>
+    // What is read is the filter of this text.
+    ensures filter { IfOk result (λ filter. ReadsAs text.now filter) }
+    // A text of a filter, or of none, is read, unless memory runs out.
+    ensures only { (filter : Option TreeOf) → ReadsAs text.now filter → IsFilterOrMemory filter result }
+    // What is refused is no filter from this offset on.
+    ensures refused { IfErr result (λ e. IsCause text.now e) }
+{
+    if text.is_empty() {
+        return Ok(None);
+    }
+    Ok(Some(parse(alloc, text)?))
+}
+
+/// A text is kept for one filter at most, and an empty one for none. This law has no code.
+pub fn filter_texts()
+    ensures one { (text : List ℕ) (a b : Option TreeOf) → ReadsAs text a → ReadsAs text b → a ≡ b }
+    ensures never { (tree : TreeOf) → Reads [] tree → ⊥ }
+{}
 
 /// A text has at most one tree, or else one offset at which it is refused. This law has no code.
 pub fn one_reading()

@@ -15,7 +15,7 @@ mod trees;
 mod word;
 mod wording;
 
-pub use filter::{one_reading, parse};
+pub use filter::{filter_of, filter_texts, one_reading, parse};
 pub use op::Op;
 pub use refusal::FilterError;
 pub use texts::Texts;
