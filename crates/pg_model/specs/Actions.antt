@@ -9,7 +9,7 @@ use Rattle.pg_model.specs.Broker.{Settings}
 -- an action of the broker, a case for each
 pub data Action : Type 0 where
   MakeAddress : List ℕ → Settings → Action
-  MakeQueue : List ℕ → List ℕ → Action
+  MakeQueue : List ℕ → List ℕ → Option (List ℕ) → Action
   DropQueue : List ℕ → Action
   Send : List ℕ → List Property → List ℕ → Action
   Open : List ℕ → List ℕ → Action
@@ -19,13 +19,12 @@ pub data Action : Type 0 where
   Close : List ℕ → Action
   Count : List ℕ → Action
 
--- What each command asks for. Queues with a filter, duplicate ids, transactions, large messages and the commands on pages
--- aren't built: a command that has no action is answered as an unreadable line is.
+-- What each command asks for. Duplicate ids, transactions, large messages and the commands on pages aren't built: a
+-- command that has no action is answered as an unreadable line is.
 abbrev pub action_of : Command → Option Action
 action_of (command.Address name max page ahead dup) =
     Some (MakeAddress name (record { max = max; page = page; ahead = ahead; dup = dup }))
-action_of (command.Queue name address None) = Some (MakeQueue name address)
-action_of (command.Queue name address (Some filter)) = None
+action_of (command.Queue name address filter) = Some (MakeQueue name address filter)
 action_of (command.DropQueue name) = Some (DropQueue name)
 action_of (command.Send address None None properties body) = Some (Send address properties body)
 action_of (command.Send address None (Some id) properties body) = None

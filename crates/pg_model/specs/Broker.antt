@@ -5,6 +5,7 @@ use Rattle.std.specs.Option.{option_map}
 use Rattle.std.specs.Str.{bytes_eq}
 use Rattle.pg_msg.specs.declared.message.Message.{Message}
 use Rattle.pg_msg.specs.declared.message.MessageId.{MessageId}
+use Rattle.pg_parse.specs.FilterTexts.{IsReadable}
 
 -- how an address keeps messages: `max` and `ahead` are bytes of messages, `page` is bytes of a page file, and `dup` is a
 -- count of duplicate ids
@@ -19,11 +20,13 @@ pub record Address : Type 0 where
   pub name : List ℕ
   pub settings : Settings
 
--- a live queue: its id, its name, the id of its address, and its messages in their order
+-- a live queue: its id, its name, the id of its address, the text of its filter, which is empty where it has none, and
+-- its messages in their order
 pub record Queue : Type 0 where
   pub id : ℕ
   pub name : List ℕ
   pub address : ℕ
+  pub filter : List ℕ
   pub messages : List Message
 
 -- What outlives a run: the epoch, the id that the next queue gets, and addresses and queues in the order of their making.
@@ -117,13 +120,14 @@ pub record IsLive (queues : List Queue) (queue : ℕ) : Type 0 where
   pub live : Contains queues one
   pub is_queue : one.id ≡ queue
 
--- Names and ids differ, ids of queues are below the next one and those of messages were drawn, the queue of a consumer is
--- live, and what is in flight is held by its queue and in flight once.
+-- Names and ids differ, ids of queues are below the next one and those of messages were drawn, filters are readable, the
+-- queue of a consumer is live, and what is in flight is held by its queue and in flight once.
 pub record IsValid (s : Broker) : Type 0 where
   pub addresses : AllPairs (λ a other. a.name ≢ other.name) s.durable.addresses
   pub names : AllPairs (λ q other. q.name ≢ other.name) s.durable.queues
   pub ids : AllPairs (λ q other. q.id ≢ other.id) s.durable.queues
   pub below : All (λ q. q.id < s.durable.next) s.durable.queues
+  pub readable : All (λ q. IsReadable q.filter) s.durable.queues
   pub held : All (λ q. AreHeld s.durable.epoch s.running.drawn q.messages) s.durable.queues
   pub consumers : AllPairs (λ c other. c.name ≢ other.name) s.running.consumers
   pub live : All (λ c. IsLive s.durable.queues c.queue) s.running.consumers

@@ -28,13 +28,14 @@ with_address d name settings = record {
   queues = d.queues;
 }
 
--- a further queue behind the others, with the next id and no messages
-abbrev pub with_queue : Durable → List ℕ → ℕ → Durable
-with_queue d name address = record {
+-- a further queue behind the others, with the next id, this text for its filter, and no messages
+abbrev pub with_queue : Durable → List ℕ → ℕ → List ℕ → Durable
+with_queue d name address text = record {
   epoch = d.epoch;
   next = d.next + 1;
   addresses = d.addresses;
-  queues = d.queues ++ (record { id = d.next; name = name; address = address; messages = [] } ∷ []);
+  queues =
+      d.queues ++ (record { id = d.next; name = name; address = address; filter = text; messages = [] } ∷ []);
 }
 
 -- the queue is gone, with what it holds

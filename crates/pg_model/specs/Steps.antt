@@ -13,7 +13,8 @@ use Rattle.pg_model.specs.Actions.{Action, MakeAddress, MakeQueue, DropQueue, Se
 use Rattle.pg_model.specs.Broker.{Queue, Consumer, Broker, address_named, queue_named, queue_with, consumer_named, same_id}
 use Rattle.pg_model.specs.Causes.{IsFirst}
 use Rattle.pg_model.specs.Changes.{with_durable, with_consumers, with_queues, with_address, with_queue, without_queue, next_id, message_of, with_message, acknowledged, with_id, without_id, with_flights, without_consumer}
-use Rattle.pg_model.specs.Refusals.{View, routed, causes}
+use Rattle.pg_model.specs.Refusals.{View, causes}
+use Rattle.pg_model.specs.Routing.{HasReading, IsRouted, text_of}
 
 -- A message goes to these queues, and where there are none it goes nowhere.
 abbrev pub Sends : Broker → List ℕ → List Property → List ℕ → Reply → Broker → Type 0
@@ -43,14 +44,15 @@ IsDone reply t is = (reply ≡ answer.Done) × (t ≡ is)
 -- what an action does that isn't refused
 abbrev pub Does : Broker → Action → Reply → Broker → Type 0
 Does s (MakeAddress name settings) reply t = IsDone reply t (with_durable s (with_address s.durable name settings))
-Does s (MakeQueue name address) reply t =
-    MatchOption (address_named s.durable.addresses address) ⊥
-    (λ id. IsDone reply t (with_durable s (with_queue s.durable name id)))
+Does s (MakeQueue name address filter) reply t =
+    HasReading filter × MatchOption (address_named s.durable.addresses address) ⊥
+    (λ id. IsDone reply t (with_durable s (with_queue s.durable name id (text_of filter))))
 Does s (DropQueue name) reply t =
     MatchOption (queue_named s.durable.queues name) ⊥
     (λ q. IsDone reply t (with_durable s (with_queues s.durable (without_queue q.id s.durable.queues))))
 Does s (Send address properties body) reply t =
-    MatchOption (address_named s.durable.addresses address) ⊥ (λ id. Sends s (routed s id) properties body reply t)
+    MatchOption (address_named s.durable.addresses address) ⊥
+    (λ id. (numbers : List ℕ) × IsRouted s id properties numbers × Sends s numbers properties body reply t)
 Does s (Open name queue) reply t =
     MatchOption (queue_named s.durable.queues queue) ⊥
     (λ q. IsDone reply t (with_consumers s
