@@ -1,34 +1,35 @@
--- The entries of two parts give what the second gives behind the first.
-use Rattle.std.proofs.Common.{◌≡◌, ◌≢◌, Bool, true, false, cond, List, [], ◌∷◌, ◌++◌, Option, Some, None, refl, sym, ◌∙◌, ap, is_none}
-use Rattle.std.specs.Option.{option_and_then}
+-- Entries lead to one state at most, and part behind part as the whole does.
+use Rattle.std.proofs.Common.{◌≡◌, inl, inr, List, [], ◌∷◌, ◌++◌, refl, sym, ◌∙◌, subst}
 use Rattle.pg_disk.specs.declared.fault.Rule.{Rule}
 use Rattle.pg_records.specs.declared.entry.Entry.{Entry}
 use Rattle.pg_fold.specs.declared.durable.Durable.{Durable}
-use Rattle.pg_fold.specs.Fold.{fold, rule_of, changed, IsApplied}
+use Rattle.pg_fold.specs.Fold.{Breaks, Folds, IsApplied}
 
--- behind an entry, which is applied or not
-behind : (g : Durable → Option Durable) (applied : Bool) (whole front : Option Durable) → whole ≡ option_and_then g front → cond applied whole None ≡ option_and_then g (cond applied front None)
-behind g true whole front same = same
-behind g false whole front same = refl
+pub folds_one : (d a b : Durable) (entries : List Entry) → Folds d entries a → Folds d entries b → a ≡ b
+folds_one d a b [] this that = this ∙ sym that
+folds_one d a b (e ∷ entries) this that =
+    let same : that.0 ≡ this.0 = that.1.effect ∙ sym this.1.effect in
+    folds_one this.0 a b entries this.2 (subst (λ s. Folds s entries b) same that.2)
 
-pub fold-append : (d : Durable) (first others : List Entry) → fold d (first ++ others) ≡ option_and_then (λ between. fold between others) (fold d first)
-fold-append d [] others = refl
-fold-append d (e ∷ first) others =
-    behind (λ between. fold between others) (is_none (rule_of d e)) (fold (changed d e) (first ++ others)) (fold (changed d e) first) (fold-append (changed d e) first others)
+pub folds_parts : (d between after : Durable) (first others : List Entry) → Folds d first between → Folds between others after → Folds d (first ++ others) after
+folds_parts d between after [] others front back = subst (λ s. Folds s others after) front back
+folds_parts d between after (e ∷ first) others front back = (front.0, front.1, folds_parts front.0 between after first others front.2 back)
 
--- one entry more
-pub fold-push : (d before : Durable) (some : List Entry) (next : Entry) → fold d some ≡ Some before → fold d (some ++ next ∷ []) ≡ cond (is_none (rule_of before next)) (Some (changed before next)) None
-fold-push d before some next e = fold-append d some (next ∷ []) ∙ ap (option_and_then (λ between. fold between (next ∷ []))) e
+pub folds_cut : (d after : Durable) (first others : List Entry) → Folds d (first ++ others) after → (between : Durable) × Folds d first between × Folds between others after
+folds_cut d after [] others whole = (d, refl, whole)
+folds_cut d after (e ∷ first) others whole =
+    let parts = folds_cut whole.0 after first others whole.2 in
+    (parts.0, (whole.0, whole.1, parts.1), parts.2)
 
-pub fold_applied : (d before after : Durable) (some : List Entry) (next : Entry) → fold d some ≡ Some before → IsApplied before next after → fold d (some ++ next ∷ []) ≡ Some after
-fold_applied d before after some next e applied =
-    fold-push d before some next e
-    ∙ ap (λ rule. cond (is_none rule) (Some (changed before next)) None) applied.condition
-    ∙ ap Some (sym applied.effect)
+pub folds_applied : (d before after : Durable) (some : List Entry) (next : Entry) → Folds d some before → IsApplied before next after → Folds d (some ++ next ∷ []) after
+folds_applied d before after some next front applied = folds_parts d before after some (next ∷ []) front (after, applied, refl)
 
-pub fold_broken : (d before : Durable) (some : List Entry) (next : Entry) → fold d some ≡ Some before → rule_of before next ≢ None → fold d (some ++ next ∷ []) ≡ None
-fold_broken d before some next e broken = fold-push d before some next e ∙ not_none (rule_of before next) broken
-  where
-    not_none : (rule : Option Rule) → rule ≢ None → cond (is_none rule) (Some (changed before next)) None ≡ None
-    not_none None differs = absurd (differs refl)
-    not_none (Some rule) differs = refl
+pub broken_never : (before after : Durable) (next : Entry) (rule : Rule) → Breaks before next rule → IsApplied before next after → ⊥
+broken_never before after next rule (inl is) applied = let none = sym is ∙ applied.condition in cc
+broken_never before after next rule (inr unreadable) applied = unreadable.1 applied.readable
+
+pub folds_broken : (d before after : Durable) (some : List Entry) (next : Entry) (rule : Rule) → Folds d some before → Breaks before next rule → Folds d (some ++ next ∷ []) after → ⊥
+folds_broken d before after some next rule front broken whole =
+    let parts = folds_cut d after some (next ∷ []) whole in
+    let same : parts.0 ≡ before = folds_one d parts.0 before some parts.1 front in
+    broken_never before parts.2.0 next rule broken (subst (λ s. IsApplied s next parts.2.0) same parts.2.1)

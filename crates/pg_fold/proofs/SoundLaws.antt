@@ -1,9 +1,9 @@
 -- Entry after entry leads from a sound state to a sound state.
-use Rattle.std.proofs.Common.{◌≡◌, ℕ, ◌+◌, Bool, true, false, not, cond, ◌==◌, List, [], ◌∷◌, length, Option, Some, None, refl, sym, ◌∙◌, subst, is_none, arith, inl, inr, eqb-true, leb-true, ltb-true, ne_eqb}
-use Rattle.std.proofs.lemmas.Bool.{and_parts, cases_Bool, cond-true, cond-false, not-true, not_from_false}
+use Rattle.std.proofs.Common.{◌≡◌, ℕ, ◌+◌, Bool, true, false, not, cond, ◌==◌, List, [], ◌∷◌, length, Option, Some, None, refl, sym, subst, arith, eqb-true, leb-true, ltb-true, ne_eqb}
+use Rattle.std.proofs.lemmas.Bool.{and_parts, not-true, not_from_false}
 use Rattle.std.proofs.lemmas.List.Elements.{All-nil, All-push}
 use Rattle.pg_disk.specs.declared.fault.Rule.{Rule}
-use Rattle.pg_msg.specs.declared.limits.TheConstants.{MOST_ADDRESSES, MOST_QUEUES}
+use Rattle.pg_msg.specs.declared.limits.TheConstants.{LONGEST_FILTER, MOST_ADDRESSES, MOST_QUEUES}
 use Rattle.pg_msg.specs.Lists.{AreQueues}
 use Rattle.pg_records.specs.declared.entry.Entry.{Entry}
 use Rattle.pg_records.specs.declared.entry.Entry.TheVariants as entry
@@ -12,7 +12,7 @@ use Rattle.pg_fold.specs.declared.durable.Durable.{Durable}
 use Rattle.pg_fold.specs.declared.rows.AddressRow.{AddressRow}
 use Rattle.pg_fold.specs.declared.rows.JournaledRow.{JournaledRow}
 use Rattle.pg_fold.specs.declared.rows.QueueRow.{QueueRow}
-use Rattle.pg_fold.specs.Fold.{changed, fold, fresh, rule_of, IsApplied}
+use Rattle.pg_fold.specs.Fold.{changed, fresh, rule_of, Folds, IsApplied, IsReadableEntry}
 use Rattle.pg_fold.specs.Rows.{has_message}
 use Rattle.pg_fold.specs.Sound.{IsHeldRow, IsSound}
 use Rattle.pg_fold.proofs.SoundAddresses.{addresses_push}
@@ -28,21 +28,17 @@ others_hold : (b : Bool) (rule : Rule) (others : Option Rule) → cond b others 
 others_hold true rule others none = none
 others_hold false rule others none = cc
 
-empty : (xs : List ℕ) → (length xs == 0) ≡ true → xs ≡ []
-empty [] is = refl
-empty (x ∷ xs) is = absurd (let none = eqb-true (length (x ∷ xs)) 0 is in omega (arith, none))
-
 some_hold : (queues : List ℕ) → AreQueues queues → not (length queues == 0) ≡ true
 some_hold queues are = not_from_false _ (ne_eqb (length queues) 0 (λ is. omega (arith, is, are.count.0)))
 
-sound_changed : (d : Durable) (e : Entry) → IsSound d → HasFields e → rule_of d e ≡ None → IsSound (changed d e)
-sound_changed d (entry.Epoch epoch) sound fields none = record {
+sound_changed : (d : Durable) (e : Entry) → IsSound d → HasFields e → rule_of d e ≡ None → IsReadableEntry e → IsSound (changed d e)
+sound_changed d (entry.Epoch epoch) sound fields none readable = record {
   addresses = sound.addresses;
   queues = sound.queues;
   messages = messages_later d.epoch epoch d.journaled (let more = ltb-true d.epoch epoch (holds _ _ _ none) in omega (arith, more)) sound.messages;
   held = sound.held;
 }
-sound_changed d (entry.Address address name max page ahead dup) sound fields none =
+sound_changed d (entry.Address address name max page ahead dup) sound fields none readable =
     let row : AddressRow = record { id = address; name = name; max = max; page = page; ahead = ahead; dup = dup; first = 1 } in
     let fresh = and_parts _ _ (holds _ _ _ none) in
     let new = and_parts _ _ fresh.1 in
@@ -53,7 +49,7 @@ sound_changed d (entry.Address address name max page ahead dup) sound fields non
       messages = sound.messages;
       held = held_beside d.addresses row d.queues d.journaled sound.held;
     }
-sound_changed d (entry.Queue queue address name filter) sound fields none =
+sound_changed d (entry.Queue queue address name filter) sound fields none readable =
     let row : QueueRow = record { id = queue; address = address; name = name; filter = filter } in
     let fresh = and_parts _ _ (holds _ _ _ none) in
     let new = and_parts _ _ fresh.1 in
@@ -61,17 +57,17 @@ sound_changed d (entry.Queue queue address name filter) sound fields none =
     let room = and_parts _ _ known.1 in
     record {
       addresses = sound.addresses;
-      queues = queues_push d.addresses d.next d.queues row sound.queues (eqb-true queue d.next fresh.0) (not-true _ new.1) known.0 (ltb-true _ MOST_QUEUES room.0) (empty filter room.1);
+      queues = queues_push d.addresses d.next d.queues row sound.queues (eqb-true queue d.next fresh.0) (not-true _ new.1) known.0 (ltb-true _ MOST_QUEUES room.0) readable (leb-true (length filter) LONGEST_FILTER room.1);
       messages = sound.messages;
       held = held_with d.addresses d.queues row d.journaled sound.held;
     }
-sound_changed d (entry.DropQueue queue) sound fields none = record {
+sound_changed d (entry.DropQueue queue) sound fields none readable = record {
   addresses = sound.addresses;
   queues = queues_without d.addresses d.next d.queues queue sound.queues;
   messages = messages_dropped d.epoch queue d.journaled sound.messages;
   held = held_dropped d.addresses d.queues queue d.journaled sound.held;
 }
-sound_changed d (entry.Add address queues message) sound fields none =
+sound_changed d (entry.Add address queues message) sound fields none readable =
     let row : JournaledRow = record { address = address; message = message; holders = queues } in
     let known = and_parts _ _ (holds _ _ _ none) in
     let all = and_parts _ _ known.1 in
@@ -83,51 +79,34 @@ sound_changed d (entry.Add address queues message) sound fields none =
       held = All-push (IsHeldRow d.addresses d.queues) d.journaled row sound.held
           (record { placed = known.0; held = some_hold queues fields.1; holders = all.0 });
     }
-sound_changed d (entry.Ack queue message) sound fields none = record {
+sound_changed d (entry.Ack queue message) sound fields none readable = record {
   addresses = sound.addresses;
   queues = sound.queues;
   messages = messages_acknowledged d.epoch queue message d.journaled sound.messages;
   held = held_acknowledged d.addresses d.queues queue message d.journaled sound.held;
 }
-sound_changed d (entry.NextQueue queue) sound fields none = record {
+sound_changed d (entry.NextQueue queue) sound fields none readable = record {
   addresses = sound.addresses;
   queues = queues_later d.addresses d.next queue d.queues (leb-true d.next queue (holds _ _ _ none)) sound.queues;
   messages = sound.messages;
   held = sound.held;
 }
-sound_changed d _ sound fields none = sound
+sound_changed d _ sound fields none readable = sound
 
 pub sound_kept : (before after : Durable) (next : Entry) → IsSound before → HasFields next → IsApplied before next after → IsSound after
-sound_kept before after next sound fields applied = subst IsSound (sym applied.effect) (sound_changed before next sound fields applied.condition)
+sound_kept before after next sound fields applied = subst IsSound (sym applied.effect) (sound_changed before next sound fields applied.condition applied.readable)
 
 pub sound_fresh : IsSound fresh
 sound_fresh = record {
   addresses = record { numbered = λ k other lt. absurd (omega (arith, lt)); names = λ i j d less lt. absurd (omega (arith, lt)); few = omega arith; settings = All-nil _ };
-  queues = record { ascending = λ i j d less lt. absurd (omega (arith, lt)); below = All-nil _; names = λ i j d less lt. absurd (omega (arith, lt)); placed = All-nil _; few = λ address. omega arith; unfiltered = All-nil _ };
+  queues = record { ascending = λ i j d less lt. absurd (omega (arith, lt)); below = All-nil _; names = λ i j d less lt. absurd (omega (arith, lt)); placed = All-nil _; few = λ address. omega arith; readable = All-nil _; short = All-nil _ };
   messages = record { ids = λ i j d less lt. absurd (omega (arith, lt)); begun = All-nil _; messages = All-nil _ };
   held = All-nil _;
 }
 
-some_is : (d e : Durable) → ◌≡◌ {A = Option Durable} (Some d) (Some e) → d ≡ e
-some_is d e same = cc
+sound_from : (d e : Durable) (entries : List Entry) → IsSound d → HaveFields entries → Folds d entries e → IsSound e
+sound_from d e [] sound fields is = subst IsSound (sym is) sound
+sound_from d e (next ∷ entries) sound fields folds = sound_from folds.0 e entries (sound_kept d folds.0 next sound fields.0 folds.1) fields.1 folds.2
 
--- a rule that isn't there
-no_rule : (rule : Option Rule) → is_none rule ≡ true → rule ≡ None
-no_rule None is = refl
-no_rule (Some rule) is = cc
-
-sound_from : (d e : Durable) (entries : List Entry) → IsSound d → HaveFields entries → fold d entries ≡ Some e → IsSound e
-sound_from d e [] sound fields is = subst IsSound (some_is d e is) sound
-sound_from d e (next ∷ entries) sound fields is =
-    elim (cases_Bool (is_none (rule_of d next))) [
-      | inl applied ↦
-          sound_from (changed d next) e entries (sound_changed d next sound fields.0 (no_rule (rule_of d next) applied)) fields.1
-          (sym (cond-true (is_none (rule_of d next)) (fold (changed d next) entries) None applied) ∙ is)
-      | inr broken ↦ absurd (nothing (sym (cond-false (is_none (rule_of d next)) (fold (changed d next) entries) None broken) ∙ is))
-    ]
-  where
-    nothing : ◌≡◌ {A = Option Durable} None (Some e) → ⊥
-    nothing is = cc
-
-pub sound_folded : (d : Durable) (entries : List Entry) → HaveFields entries → fold fresh entries ≡ Some d → IsSound d
+pub sound_folded : (d : Durable) (entries : List Entry) → HaveFields entries → Folds fresh entries d → IsSound d
 sound_folded d entries = sound_from fresh d entries sound_fresh

@@ -1,5 +1,5 @@
 -- Queues that come and go, among those that are sound.
-use Rattle.std.proofs.Common.{◌≡◌, ◌≢◌, ℕ, ◌+◌, ◌<◌, ◌≤◌, Bool, true, false, not, cond, ◌==◌, List, [], ◌∷◌, ◌++◌, get_or, count_by, sym, ◌∙◌, ap, subst, arith, eqb-true, inl, inr}
+use Rattle.std.proofs.Common.{◌≡◌, ◌≢◌, ℕ, ◌+◌, ◌<◌, ◌≤◌, Bool, true, false, not, cond, ◌==◌, List, [], ◌∷◌, ◌++◌, length, get_or, count_by, sym, ◌∙◌, ap, subst, arith, eqb-true, inl, inr}
 use Rattle.std.specs.Prelude.{filter}
 use Rattle.std.specs.List.{list_any}
 use Rattle.std.specs.Str.{bytes_eq}
@@ -10,7 +10,8 @@ use Rattle.std.proofs.lemmas.List.Quantifiers.{all_pairs_push}
 use Rattle.std.proofs.lemmas.List.Sums.{sum_by-append}
 use Rattle.pg_fold.specs.declared.rows.AddressRow.{AddressRow}
 use Rattle.pg_fold.specs.declared.rows.QueueRow.{QueueRow}
-use Rattle.pg_msg.specs.declared.limits.TheConstants.{MOST_QUEUES}
+use Rattle.pg_msg.specs.declared.limits.TheConstants.{LONGEST_FILTER, MOST_QUEUES}
+use Rattle.pg_parse.specs.FilterTexts.{IsReadable}
 use Rattle.pg_fold.specs.Rows.{has_address, has_queue_named, queues_at, without_queue}
 use Rattle.pg_fold.specs.Sound.{AreQueues}
 use Rattle.pg_fold.proofs.SoundAddresses.{differ, each_fails, still_address}
@@ -45,14 +46,15 @@ count_without p q (row ∷ rows) =
     (λ _. omega (arith, others, count_cons p row rows))
 
 pub queues_push : (addresses : List AddressRow) (next : ℕ) (rows : List QueueRow) (row : QueueRow) → AreQueues addresses next rows → row.id ≡ next → has_queue_named rows row.name ≡ false → has_address addresses row.address ≡ true
-    → queues_at rows row.address < MOST_QUEUES → row.filter ≡ [] → AreQueues addresses (next + 1) (rows ++ row ∷ [])
-queues_push addresses next rows row sound is new placed room plain = record {
+    → queues_at rows row.address < MOST_QUEUES → IsReadable row.filter → length row.filter ≤ LONGEST_FILTER → AreQueues addresses (next + 1) (rows ++ row ∷ [])
+queues_push addresses next rows row sound is new placed room readable short = record {
   ascending = all_pairs_push (λ a b. a.id < b.id) rows row sound.ascending (λ k d lt. omega (arith, sound.below k d lt, is));
   below = All-push (λ r. r.id < next + 1) rows row (All-weaker (λ r. r.id < next) (λ r. r.id < next + 1) (λ r lt. omega (arith, lt)) rows sound.below) (omega (arith, is));
   names = all_pairs_push (λ a b. a.name ≢ b.name) rows row sound.names (λ k d lt. differ (get_or rows k d).name row.name (each_fails (λ r. bytes_eq r.name row.name) rows new k d lt));
   placed = All-push (λ r. has_address addresses r.address ≡ true) rows row sound.placed placed;
   few = few_push rows row sound.few room;
-  unfiltered = All-push (λ r. r.filter ≡ []) rows row sound.unfiltered plain;
+  readable = All-push (λ r. IsReadable r.filter) rows row sound.readable readable;
+  short = All-push (λ r. length r.filter ≤ LONGEST_FILTER) rows row sound.short short;
 }
 
 pub queues_without : (addresses : List AddressRow) (next : ℕ) (rows : List QueueRow) (id : ℕ) → AreQueues addresses next rows → AreQueues addresses next (without_queue id rows)
@@ -64,7 +66,8 @@ queues_without addresses next rows id sound =
       names = AllPairs-filter (λ a b. a.name ≢ b.name) kept rows sound.names;
       placed = All-filter kept (λ r. has_address addresses r.address ≡ true) rows sound.placed;
       few = λ address. let less = count_without (λ r. r.address == address) kept rows in omega (arith, less, sound.few address);
-      unfiltered = All-filter kept (λ r. r.filter ≡ []) rows sound.unfiltered;
+      readable = All-filter kept (λ r. IsReadable r.filter) rows sound.readable;
+      short = All-filter kept (λ r. length r.filter ≤ LONGEST_FILTER) rows sound.short;
     }
 
 -- the next id is a later one
@@ -75,7 +78,8 @@ queues_later addresses next later rows le sound = record {
   names = sound.names;
   placed = sound.placed;
   few = sound.few;
-  unfiltered = sound.unfiltered;
+  readable = sound.readable;
+  short = sound.short;
 }
 
 -- there is one address more
@@ -86,7 +90,8 @@ queues_beside addresses row next rows sound = record {
   names = sound.names;
   placed = All-weaker (λ r. has_address addresses r.address ≡ true) (λ r. has_address (addresses ++ row ∷ []) r.address ≡ true) (λ r is. still_address addresses row r.address is) rows sound.placed;
   few = sound.few;
-  unfiltered = sound.unfiltered;
+  readable = sound.readable;
+  short = sound.short;
 }
 
 -- what passes is found among those that stay, where what passes stays

@@ -1,9 +1,10 @@
 -- The state that a list of journal entries gives.
-use Rattle.std.specs.Prelude.{◌≡◌, ◌+◌, ℕ, Bool, not, ◌&&◌, List, [], ◌∷◌, ◌++◌, length, Option, Some, None, nat_lt, nat_le, ◌==◌, is_none, if◌then◌else◌}
+use Rattle.std.specs.Prelude.{◌≡◌, ◌⊎◌, ◌+◌, ℕ, Bool, not, ◌&&◌, List, [], ◌∷◌, ◌++◌, length, Option, Some, None, nat_lt, nat_le, ◌==◌, if◌then◌else◌}
 use Rattle.std.specs.List.{list_all}
 use Rattle.pg_disk.specs.declared.fault.Rule.{Rule}
 use Rattle.pg_disk.specs.declared.fault.Rule.TheVariants as rule
-use Rattle.pg_msg.specs.declared.limits.TheConstants.{GREATEST_AHEAD, GREATEST_DUP, GREATEST_MAX, GREATEST_PAGE, MOST_ADDRESSES, MOST_QUEUES, QUEUE_ID_LIMIT}
+use Rattle.pg_msg.specs.declared.limits.TheConstants.{GREATEST_AHEAD, GREATEST_DUP, GREATEST_MAX, GREATEST_PAGE, LONGEST_FILTER, MOST_ADDRESSES, MOST_QUEUES, QUEUE_ID_LIMIT}
+use Rattle.pg_parse.specs.FilterTexts.{IsReadable}
 use Rattle.pg_records.specs.declared.entry.Entry.{Entry}
 use Rattle.pg_records.specs.declared.entry.Entry.TheVariants as entry
 use Rattle.pg_fold.specs.declared.durable.Durable.{Durable}
@@ -25,8 +26,9 @@ are_settings max page ahead dup =
 abbrev pub unless : Bool → Rule → Option Rule → Option Rule
 unless condition broken others = if condition then others else Some broken
 
--- Which rule an entry breaks, if its condition fails. Filters aren't built, and neither are the entries on pages,
--- transactions, duplicate ids and large messages.
+-- ---- the condition of an entry
+-- Which rule an entry breaks by its fields and the state, its filter's text aside. The entries on pages, transactions,
+-- duplicate ids and large messages aren't built.
 abbrev pub rule_of : Durable → Entry → Option Rule
 rule_of d (entry.Epoch epoch) = unless (nat_lt d.epoch epoch) rule.Repeat None
 rule_of d (entry.Address address name max page ahead dup) =
@@ -36,7 +38,7 @@ rule_of d (entry.Address address name max page ahead dup) =
 rule_of d (entry.Queue queue address name filter) =
     unless ((queue == d.next) && (nat_lt queue QUEUE_ID_LIMIT && not (has_queue_named d.queues name))) rule.Repeat
     (unless (has_address d.addresses address &&
-    (nat_lt (queues_at d.queues address) MOST_QUEUES && (length filter == 0))) rule.Name None)
+    (nat_lt (queues_at d.queues address) MOST_QUEUES && nat_le (length filter) LONGEST_FILTER)) rule.Name None)
 rule_of d (entry.DropQueue queue) = unless (has_queue d.queues queue) rule.Name None
 rule_of d (entry.Add address queues message) =
     unless (has_address d.addresses address &&
@@ -53,6 +55,27 @@ rule_of d (entry.LargeAck queue message) = Some rule.Name
 rule_of d (entry.FirstPage address page) = Some rule.Name
 rule_of d (entry.AckRun queue page start end) = Some rule.Name
 
+-- the text of a new queue's filter is readable
+abbrev pub IsReadableEntry : Entry → Type 0
+IsReadableEntry (entry.Queue queue address name filter) = IsReadable filter
+IsReadableEntry other = Unit {0}
+
+-- The first part of the condition that fails breaks this rule. The filter is read last.
+abbrev pub Breaks : Durable → Entry → Rule → Type 0
+Breaks d e broken =
+    (rule_of d e ≡ Some broken) ⊎ ((rule_of d e ≡ None) × (IsReadableEntry e → ⊥) × (broken ≡ rule.Name))
+
+-- what isn't readable breaks Name, or there was no memory to read it
+abbrev pub IsUnreadable : Type 0 → FoldError → Type 0
+IsUnreadable Readable (Broken broken) = (Readable → ⊥) × (broken ≡ rule.Name)
+IsUnreadable Readable Memory = Unit {0}
+
+-- this is the rule that is broken, if one is
+abbrev pub IsBrokenBy : Durable → Entry → FoldError → Type 0
+IsBrokenBy d e (Broken broken) = Breaks d e broken
+IsBrokenBy d e Memory = Unit {0}
+
+-- ---- the effect of an entry
 -- what an entry does, where its condition holds
 abbrev pub changed : Durable → Entry → Durable
 changed d (entry.Epoch epoch) = record d { epoch = epoch }
@@ -83,17 +106,13 @@ changed d (entry.LargeAck queue message) = d
 changed d (entry.FirstPage address page) = d
 changed d (entry.AckRun queue page start end) = d
 
--- the entries in their order, and nothing where the condition of one fails
-abbrev pub fold : Durable → List Entry → Option Durable
-fold d [] = Some d
-fold d (e ∷ entries) = if is_none (rule_of d e) then fold (changed d e) entries else None
-
 -- the entry's condition holds, and this is the state behind it
 pub record IsApplied (d : Durable) (e : Entry) (after : Durable) : Type 0 where
   pub condition : rule_of d e ≡ None
+  pub readable : IsReadableEntry e
   pub effect : after ≡ changed d e
 
--- this is the rule that is broken, if one is
-abbrev pub IsBrokenBy : Option Rule → FoldError → Type 0
-IsBrokenBy rule (Broken broken) = rule ≡ Some broken
-IsBrokenBy rule Memory = Unit {0}
+-- the entries lead, one behind the other, from the one state to the other
+abbrev pub Folds : Durable → List Entry → Durable → Type 0
+Folds d [] after = after ≡ d
+Folds d (e ∷ entries) after = (next : Durable) × IsApplied d e next × Folds next entries after

@@ -1,8 +1,9 @@
 -- What is true of every state that entries give.
-use Rattle.std.specs.Prelude.{◌≡◌, ◌≢◌, ◌≤◌, ◌<◌, ℕ, true, false, List, [], length, All, AllPairs}
+use Rattle.std.specs.Prelude.{◌≡◌, ◌≢◌, ◌≤◌, ◌<◌, ℕ, true, false, List, length, All, AllPairs}
 use Rattle.std.specs.List.{list_all}
-use Rattle.pg_msg.specs.declared.limits.TheConstants.{MOST_ADDRESSES, MOST_QUEUES}
+use Rattle.pg_msg.specs.declared.limits.TheConstants.{LONGEST_FILTER, MOST_ADDRESSES, MOST_QUEUES}
 use Rattle.pg_msg.specs.Messages.{IsMessage}
+use Rattle.pg_parse.specs.FilterTexts.{IsReadable}
 use Rattle.pg_fold.specs.declared.durable.Durable.{Durable}
 use Rattle.pg_fold.specs.declared.rows.AddressRow.{AddressRow}
 use Rattle.pg_fold.specs.declared.rows.JournaledRow.{JournaledRow}
@@ -19,14 +20,15 @@ pub record AreAddresses (rows : List AddressRow) : Type 0 where
   pub settings : All (λ row. are_settings row.max row.page row.ahead row.dup ≡ true) rows
 
 -- The live queues have ascending ids below the next one and names that differ, their addresses are there and have not
--- too many of them, and none has a filter.
+-- too many of them, and their filters are readable and not too long.
 pub record AreQueues (addresses : List AddressRow) (next : ℕ) (rows : List QueueRow) : Type 0 where
   pub ascending : AreAscending rows
   pub below : All (λ row. row.id < next) rows
   pub names : AllPairs (λ row other. row.name ≢ other.name) rows
   pub placed : All (λ row. has_address addresses row.address ≡ true) rows
   pub few : (address : ℕ) → queues_at rows address ≤ MOST_QUEUES
-  pub unfiltered : All (λ row. row.filter ≡ []) rows
+  pub readable : All (λ row. IsReadable row.filter) rows
+  pub short : All (λ row. length row.filter ≤ LONGEST_FILTER) rows
 
 -- a message has its address, some queue holds it, and those that do are live ones of the address
 pub record IsHeldRow (addresses : List AddressRow) (queues : List QueueRow) (row : JournaledRow) : Type 0 where

@@ -6,6 +6,7 @@ ghost use Rattle.pg_fold.specs.Fold.{changed, fresh, rule_of, unless, IsApplied,
 ghost use Rattle.pg_fold.specs.Rows.{has_queue_named};
 
 use crate::addresses::AddressRows;
+use crate::filters::check_readable;
 use crate::fold_error::FoldError;
 use crate::holders::Holders;
 use crate::journaled::JournaledRows;
@@ -14,8 +15,8 @@ use crate::rows::{AddressRow, JournaledRow, QueueRow};
 use pg_bytes::Text;
 use pg_disk::Rule;
 use pg_msg::{
-    GREATEST_AHEAD, GREATEST_DUP, GREATEST_MAX, GREATEST_PAGE, MOST_ADDRESSES, MOST_QUEUES,
-    Message, MessageId, QUEUE_ID_LIMIT, QueueIds,
+    GREATEST_AHEAD, GREATEST_DUP, GREATEST_MAX, GREATEST_PAGE, LONGEST_FILTER, MOST_ADDRESSES,
+    MOST_QUEUES, Message, MessageId, QUEUE_ID_LIMIT, QueueIds,
 };
 use pg_records::Entry;
 use std::alloc::{AllocError, Global};
@@ -58,9 +59,9 @@ impl Durable {
         }
     }
 
-    /// The rule of the first part of the entry's condition that fails, and None where the condition holds. Filters
-    /// aren't built: a queue with one breaks `Name`, where it doesn't break `Repeat`. Neither are the entries on pages,
-    /// transactions, duplicate ids and large messages, which break `Name`.
+    /// The rule of the first part of the entry's condition that fails, and None where the condition holds. Whether the
+    /// text of a filter is readable isn't asked here, only how long it is. The entries on pages, transactions, duplicate
+    /// ids and large messages aren't built, and break `Name`.
     pub fn broken_by(&self, entry: &Entry) -> Option<Rule>
         ensures { result ≡ rule_of self.now entry.now }
     {
@@ -102,7 +103,8 @@ impl Durable {
         }
     }
 
-    /// The state behind the entry, whose condition holds. Fails only where there is no memory.
+    /// The state behind the entry, whose condition holds, also if its filter isn't readable. Fails only where there is no
+    /// memory.
     pub fn change(self, alloc: Global, entry: Entry) -> Result<Durable, AllocError>
         requires { rule_of self entry ≡ None }
         ensures { IfOk result (λ after. after ≡ changed self entry) }
@@ -144,15 +146,16 @@ impl Durable {
     }
 
     /// The state behind the entry. `Broken` comes where the entry's condition fails, with the rule of the first part
-    /// that does.
+    /// that does: the filter of a queue is read last, and breaks `Name` where it isn't readable.
     pub fn apply(self, alloc: Global, entry: Entry) -> Result<Durable, FoldError>
         ensures applied { IfOk result (IsApplied self entry) }
-        ensures broken { IfErr result (IsBrokenBy (rule_of self entry)) }
+        ensures broken { IfErr result (IsBrokenBy self entry) }
     {
-        match self.broken_by(&entry) {
-            Some(rule) => Err(FoldError::Broken(rule)),
-            None => Ok(self.change(alloc, entry)?),
+        if let Some(rule) = self.broken_by(&entry) {
+            return Err(FoldError::Broken(rule));
         }
+        check_readable(alloc, &entry)?;
+        Ok(self.change(alloc, entry)?)
     }
 
     fn broken_by_address(
@@ -184,7 +187,7 @@ impl Durable {
         }
         if !self.addresses.has(address)
             || self.queues.count_at(address) >= MOST_QUEUES
-            || !filter.as_str().is_empty()
+            || filter.as_str().len() > LONGEST_FILTER
         {
             return Some(Rule::Name);
         }

@@ -3,6 +3,7 @@
 
 mod addresses;
 mod durable;
+mod filters;
 mod fold_error;
 mod held;
 mod holders;

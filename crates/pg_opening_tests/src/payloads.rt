@@ -1,6 +1,6 @@
 // What an opening makes of the payloads of the journal, and of pages beside it.
 use crate::openings::{ONE, open};
-use pg_bytes::{Octets, Text, put_bytes, put_u8, put_u32, put_u64};
+use pg_bytes::{Octets, Text, put_bytes, put_u8, put_u16, put_u32, put_u64};
 use pg_disk::{Damage, Fault, FileId, Kind, MemSite, Rule};
 use pg_records::{Entry, encode_batch};
 use std::alloc::{AllocError, Global};
@@ -29,6 +29,16 @@ fn made(alloc: Global, max: u64) -> Result<Octets, AllocError> {
         filter: Text::from_str(alloc, "")?,
     };
     encode_batch(alloc, &[Entry::Epoch { epoch: 1 }, address, queue])
+}
+
+// The payload of a second queue on the address, with this filter.
+fn filtered(alloc: Global, filter: &str) -> Result<Octets, AllocError> {
+    let length = u16::try_from(filter.len()).unwrap_or(0);
+    let mut out = Octets::new(alloc);
+    put_bytes(&mut out, b"\x03\0\0\0\x02\0\0\0\x01\x01R")?;
+    put_u16(&mut out, length)?;
+    put_bytes(&mut out, filter.as_bytes())?;
+    Ok(out)
 }
 
 // The payload of a message with so many bytes for the queue.
@@ -96,6 +106,50 @@ fn damage(file: FileId, at: u64, rule: Rule) -> Result<usize, Fault> {
 fn needs_the_queue(alloc: Global) -> Result<bool, AllocError> {
     let behind = (made(alloc, 1_000_000)?.len() as u64).saturating_add(18);
     Ok(opened(alloc, 1_000_000, &[(2, 3)], &[])? == damage(ONE, behind, Rule::Name))
+}
+
+// Filters in the journal, and whether an opening takes them.
+const FILTERS: [(&str, bool); 6] = [
+    ("", true),
+    ("n < 5", true),
+    ("a IN ('x','y') OR b IS NULL", true),
+    ("n <", false),
+    ("a = 1 = 2", false),
+    (" ", false),
+];
+
+// What an opening comes to over a journal that makes a queue with this filter behind another one.
+fn opened_with(alloc: Global, filter: &str) -> Result<Result<usize, Fault>, AllocError> {
+    let mut bytes = Octets::new(alloc);
+    put_batch(&mut bytes, &made(alloc, 50)?)?;
+    put_batch(&mut bytes, &filtered(alloc, filter)?)?;
+    put_u8(&mut bytes, 0)?;
+    let mut site = MemSite::new(alloc);
+    site.put(ONE, bytes.as_slice())?;
+    Ok(open(alloc, &mut site, 9))
+}
+
+// The first filter at which an opening comes to something else: it is taken, or the damage is Name, where the second
+// payload begins.
+fn wrong_filter(alloc: Global) -> Result<Option<&'static str>, AllocError> {
+    let behind = (made(alloc, 50)?.len() as u64).saturating_add(18);
+    for (filter, is_taken) in FILTERS {
+        let wanted = if is_taken {
+            Ok(0)
+        } else {
+            damage(ONE, behind, Rule::Name)
+        };
+        if opened_with(alloc, filter)? != wanted {
+            return Ok(Some(filter));
+        }
+    }
+    Ok(None)
+}
+
+#[test]
+fn reads_filters(rt: HostRuntime) -> Result<(), Fail> {
+    assert!(rt; wrong_filter(rt.alloc())?.is_none());
+    Ok(())
 }
 
 // The memory of the address, the messages, and how many there are then, or None where they have no room.

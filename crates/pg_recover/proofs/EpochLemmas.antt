@@ -16,7 +16,7 @@ use Rattle.pg_records.specs.declared.entry.Entry.TheVariants.{Epoch}
 use Rattle.pg_records.specs.Entries.{batch_bytes, SpellsBatch, SpellBatches}
 use Rattle.pg_fold.specs.declared.durable.Durable.{Durable}
 use Rattle.pg_fold.specs.Fold.{fresh, IsApplied}
-use Rattle.pg_fold.proofs.FoldLaws.{fold_applied}
+use Rattle.pg_fold.proofs.FoldLaws.{folds_applied}
 use Rattle.pg_journal.specs.declared.journal.Journal.{Journal}
 use Rattle.pg_journal.specs.Generations.{JournalOf}
 use Rattle.pg_disk.specs.Views.{as_left, as_read}
@@ -48,13 +48,13 @@ spelled_push (p ∷ batches) entries payload more spelled spells = (
 -- the batch of the next epoch
 module _ (d : Durable) (payload : List ℕ) (is : payload ≡ batch_bytes (Epoch (d.epoch + 1) ∷ [])) (fits : d.epoch + 1 < 2 ^ 32) where
   epoch_applied : IsApplied d (Epoch (d.epoch + 1)) (raised d)
-  epoch_applied = record { condition = ap (λ b. cond b None (Some Repeat)) (lt-ltb d.epoch (d.epoch + 1) (omega arith)); effect = refl }
+  epoch_applied = record { condition = ap (λ b. cond b None (Some Repeat)) (lt-ltb d.epoch (d.epoch + 1) (omega arith)); readable = tt; effect = refl }
 
   pub raised_folds : (batches : List (List ℕ)) → FoldsFrom fresh batches d → FoldsFrom fresh (batches ++ payload ∷ []) (raised d)
   raised_folds batches folds = record {
     entries = folds.entries ++ Epoch (d.epoch + 1) ∷ [];
     spelled = spelled_push batches folds.entries payload (Epoch (d.epoch + 1) ∷ []) folds.spelled (record { bytes = is; some = λ e. cc; fields = (fits, tt) });
-    folded = fold_applied fresh d (raised d) folds.entries (Epoch (d.epoch + 1)) folds.folded epoch_applied;
+    folded = folds_applied fresh d (raised d) folds.entries (Epoch (d.epoch + 1)) folds.folded epoch_applied;
   }
 
   module _ (journal : Journal) (old : Option Account) (list : List FileId) (ready : IsHonest old → IsReady journal d list (account old).files) where

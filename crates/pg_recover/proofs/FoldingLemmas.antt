@@ -1,6 +1,5 @@
 -- Payload after payload is folded, up to the end or to one that is broken.
-use Rattle.std.proofs.Common.{◌≡◌, inl, inr, ℕ, ◌+◌, ◌<◌, ◌≤◌, Bool, true, false, cond, List, [], ◌∷◌, ◌++◌, length, map, get_or, take, drop, Option, Some, None, Result, Ok, Err, refl, sym, ◌∙◌, ap, subst, is_none, arith}
-use Rattle.std.specs.Option.{option_and_then}
+use Rattle.std.proofs.Common.{◌≡◌, inl, inr, ℕ, ◌+◌, ◌<◌, ◌≤◌, List, [], ◌∷◌, ◌++◌, length, map, get_or, take, drop, Result, Ok, Err, refl, sym, ◌∙◌, ap, subst, arith}
 use Rattle.std.specs.Prelude.{IfOk, IfErr}
 use Rattle.std.proofs.lemmas.List.{drop_more, map-append, take_all, take_more, take-append-drop}
 use Rattle.pg_disk.specs.declared.fault.Damage.{Damage}
@@ -16,39 +15,28 @@ use Rattle.pg_records.proofs.BatchLaws.{same_batch}
 use Rattle.pg_fold.specs.declared.durable.Durable.{Durable}
 use Rattle.pg_fold.specs.declared.fold_error.FoldError.{FoldError}
 use Rattle.pg_fold.specs.declared.fold_error.FoldError.TheVariants.{Broken, Memory}
-use Rattle.pg_fold.specs.Fold.{fold, rule_of, IsApplied}
-use Rattle.pg_fold.proofs.FoldLaws.{fold-append}
+use Rattle.pg_fold.specs.Fold.{Breaks, Folds, IsApplied}
+use Rattle.pg_fold.proofs.FoldLaws.{broken_never, folds_applied, folds_cut, folds_one, folds_parts}
 use Rattle.pg_recover.specs.Folding.{FoldsPayload, FoldsFrom, HaveBroken, IsBroken, IsBrokenAmong, IsBrokenPayload, IsDamage, IsDamageAt}
-
-some_is : (d e : Durable) → ◌≡◌ {A = Option Durable} (Some d) (Some e) → d ≡ e
-some_is d e same = cc
-
--- the entries behind others that lead to a state
-pub fold_behind : (d e : Durable) (first others : List Entry) → fold d first ≡ Some e → fold d (first ++ others) ≡ fold e others
-fold_behind d e first others is = fold-append d first others ∙ ap (option_and_then (λ between. fold between others)) is
 
 -- a payload leads to one state
 one_state : (d e f : Durable) (payload : List ℕ) → FoldsPayload d payload e → FoldsPayload d payload f → e ≡ f
-one_state d e f payload this that = some_is e f (sym this.folded ∙ ap (fold d) (same_batch payload this.entries that.entries this.spelled that.spelled) ∙ that.folded)
+one_state d e f payload this that = folds_one d e f that.entries (subst (λ es. Folds d es e) (same_batch payload this.entries that.entries this.spelled that.spelled) this.folded) that.folded
 
 -- a payload, and those behind it
 pub payload_first : (d e after : Durable) (payload : List ℕ) (payloads : List (List ℕ)) → FoldsPayload d payload e → FoldsFrom e payloads after → FoldsFrom d (payload ∷ payloads) after
 payload_first d e after payload payloads this folds = record {
   entries = this.entries ++ folds.entries;
   spelled = (this.entries, folds.entries, this.spelled, folds.spelled, refl);
-  folded = fold_behind d e this.entries folds.entries this.folded ∙ folds.folded;
+  folded = folds_parts d e after this.entries folds.entries this.folded folds.folded;
 }
-
-between : (o : Option Durable) (g : Durable → Option Durable) (after : Durable) → option_and_then g o ≡ Some after → (m : Durable) × (o ≡ Some m) × (g m ≡ Some after)
-between None g after is = cc
-between (Some m) g after is = (m, refl, is)
 
 -- the first payload, and those behind it
 pub parts : (d after : Durable) (payload : List ℕ) (payloads : List (List ℕ)) → FoldsFrom d (payload ∷ payloads) after → (m : Durable) × FoldsPayload d payload m × FoldsFrom m payloads after
 parts d after payload payloads folds =
     let first = folds.spelled.0 in
     let others = folds.spelled.1 in
-    let m = between (fold d first) (λ mid. fold mid others) after (sym (fold-append d first others) ∙ sym (ap (fold d) folds.spelled.4) ∙ folds.folded) in (
+    let m = folds_cut d after first others (subst (λ es. Folds d es after) folds.spelled.4 folds.folded) in (
       m.0,
       record { entries = first; spelled = folds.spelled.2; folded = m.1 },
       record { entries = others; spelled = folds.spelled.3; folded = m.2 },
@@ -58,7 +46,7 @@ pub folds_nothing : (d : Durable) → FoldsFrom d [] d
 folds_nothing d = record { entries = []; spelled = refl; folded = refl }
 
 pub nothing_folds : (d after : Durable) → FoldsFrom d [] after → d ≡ after
-nothing_folds d after folds = some_is d after (sym (ap (fold d) folds.spelled) ∙ folds.folded)
+nothing_folds d after folds = sym (subst (λ es. Folds d es after) folds.spelled folds.folded)
 
 -- all of the payloads in front
 pub front_parts : (d after : Durable) (ps qs : List (List ℕ)) → FoldsFrom d (ps ++ qs) after → (m : Durable) × FoldsFrom d ps m × FoldsFrom m qs after
@@ -81,24 +69,15 @@ one_end d e f (p ∷ ps) this that =
     let other = parts d f p ps that in
     one_end one.0 e f ps one.2 (subst (λ s. FoldsFrom s ps f) (one_state d other.0 one.0 p other.1 one.1) other.2)
 
--- entry after entry
-applied : (b : Bool) (x y : Option Durable) → b ≡ true → cond b x y ≡ x
-applied true x y is = refl
-applied false x y is = cc
-
-not_applied : (b : Bool) (x y : Option Durable) → b ≡ false → cond b x y ≡ y
-not_applied true x y is = cc
-not_applied false x y is = refl
-
+-- ---- entry after entry
 -- the entries in front lead to a state, and the condition of the next one holds there
-pub entry_applied : (start d after : Durable) (entries : List Entry) (n : ℕ) (x : Entry) → n < length entries → x ≡ get_or entries n x → fold start (take n entries) ≡ Some d → IsApplied d x after
-    → fold start (take (n + 1) entries) ≡ Some after
+pub entry_applied : (start d after : Durable) (entries : List Entry) (n : ℕ) (x : Entry) → n < length entries → x ≡ get_or entries n x → Folds start (take n entries) d → IsApplied d x after
+    → Folds start (take (n + 1) entries) after
 entry_applied start d after entries n x inside is so_far here =
-    ap (fold start) (take_more entries n x inside ∙ ap (λ e. take n entries ++ e ∷ []) (sym is)) ∙ fold_behind start d (take n entries) (x ∷ []) so_far
-    ∙ applied (is_none (rule_of d x)) _ _ (ap is_none here.condition) ∙ ap Some (sym here.effect)
+    subst (λ es. Folds start es after) (sym (take_more entries n x inside ∙ ap (λ e. take n entries ++ e ∷ []) (sym is))) (folds_applied start d after (take n entries) x so_far here)
 
 -- or fails
-pub entry_broken : (start d : Durable) (entries : List Entry) (n : ℕ) (x : Entry) (rule : Rule) → n < length entries → x ≡ get_or entries n x → fold start (take n entries) ≡ Some d → rule_of d x ≡ Some rule → HaveBroken start entries rule
+pub entry_broken : (start d : Durable) (entries : List Entry) (n : ℕ) (x : Entry) (rule : Rule) → n < length entries → x ≡ get_or entries n x → Folds start (take n entries) d → Breaks d x rule → HaveBroken start entries rule
 entry_broken start d entries n x rule inside is so_far broken = record {
   before = take n entries;
   entry = x;
@@ -109,11 +88,11 @@ entry_broken start d entries n x rule inside is so_far broken = record {
   broken = broken;
 }
 
-pub entries_done : (start d : Durable) (entries : List Entry) (n : ℕ) → n ≡ length entries → fold start (take n entries) ≡ Some d → fold start entries ≡ Some d
-entries_done start d entries n is so_far = sym (ap (fold start) (take_all n entries (omega (arith, is)))) ∙ so_far
+pub entries_done : (start d : Durable) (entries : List Entry) (n : ℕ) → n ≡ length entries → Folds start (take n entries) d → Folds start entries d
+entries_done start d entries n is so_far = subst (λ es. Folds start es d) (take_all n entries (omega (arith, is))) so_far
 
 -- a payload that was decoded, whose entries were folded
-pub payload_folds : (d : Durable) (payload : List ℕ) (entries : List Entry) → SpellsBatch payload entries → (result : Result Durable FoldError) → IfOk result (λ after. fold d entries ≡ Some after) → IfOk result (FoldsPayload d payload)
+pub payload_folds : (d : Durable) (payload : List ℕ) (entries : List Entry) → SpellsBatch payload entries → (result : Result Durable FoldError) → IfOk result (Folds d entries) → IfOk result (FoldsPayload d payload)
 payload_folds d payload entries spelled (Ok after) folded = record { entries = entries; spelled = spelled; folded = folded }
 payload_folds d payload entries spelled (Err e) folded = tt
 
@@ -126,7 +105,7 @@ payload_breaks d payload entries spelled (Err Memory) breaks = tt
 -- a broken payload leads nowhere
 pub broken_nowhere : (d after : Durable) (payload : List ℕ) (rule : Rule) → IsBrokenPayload d payload rule → FoldsPayload d payload after → ⊥
 broken_nowhere d after payload rule (inl unspelled) folds = unspelled.1 folds.entries folds.spelled
-broken_nowhere d after payload rule (inr broken) folds = apart (sym none ∙ ap (fold d) same ∙ folds.folded)
+broken_nowhere d after payload rule (inr broken) folds = broken_never this.state halves.2.0 this.entry rule this.broken (subst (λ s. IsApplied s this.entry halves.2.0) at halves.2.1)
   where
     this : HaveBroken d broken.0 rule
     this = broken.2
@@ -134,13 +113,11 @@ broken_nowhere d after payload rule (inr broken) folds = apart (sym none ∙ ap 
     same : broken.0 ≡ folds.entries
     same = same_batch payload broken.0 folds.entries broken.1 folds.spelled
 
-    none : fold d broken.0 ≡ None
-    none =
-        ap (fold d) this.are ∙ fold_behind d this.state this.before (this.entry ∷ this.behind) this.folded
-        ∙ not_applied (is_none (rule_of this.state this.entry)) _ _ (ap is_none this.broken)
+    halves : (between : Durable) × Folds d this.before between × Folds between (this.entry ∷ this.behind) after
+    halves = folds_cut d after this.before (this.entry ∷ this.behind) (subst (λ es. Folds d es after) (sym same ∙ this.are) folds.folded)
 
-    apart : ◌≡◌ {A = Option Durable} None (Some after) → ⊥
-    apart is = cc
+    at : halves.0 ≡ this.state
+    at = folds_one d halves.0 this.state this.before halves.1 this.folded
 
 -- places of payloads, one after the other
 module _ (payload : Span → List ℕ) (start d : Durable) (spans : List Span) (i : ℕ) (default : Span) (inside : i < length spans) (so_far : FoldsFrom start (map payload (take i spans)) d) where

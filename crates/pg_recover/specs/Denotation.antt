@@ -1,5 +1,5 @@
 -- What the files of a directory denote: the durable part of a broker.
-use Rattle.std.specs.Prelude.{◌≡◌, ◌+◌, ℕ, List, map, filter, sum_by, Some, ◌==◌}
+use Rattle.std.specs.Prelude.{◌≡◌, ◌+◌, ℕ, List, map, filter, sum_by, ◌==◌}
 use Rattle.pg_msg.specs.declared.message.Message.{Message}
 use Rattle.pg_msg.specs.Messages.{weight_of}
 use Rattle.pg_records.specs.declared.entry.Entry.{Entry}
@@ -8,7 +8,7 @@ use Rattle.pg_fold.specs.declared.durable.Durable.{Durable}
 use Rattle.pg_fold.specs.declared.rows.AddressRow.{AddressRow}
 use Rattle.pg_fold.specs.declared.rows.JournaledRow.{JournaledRow}
 use Rattle.pg_fold.specs.declared.rows.QueueRow.{QueueRow}
-use Rattle.pg_fold.specs.Fold.{fold, fresh}
+use Rattle.pg_fold.specs.Fold.{fresh, Folds}
 use Rattle.pg_fold.specs.Rows.{has_number}
 use Rattle.pg_journal.specs.Generations.{JournalOf}
 use Rattle.pg_disk.specs.Views.{Contents}
@@ -35,7 +35,13 @@ address_of row = record {
 }
 
 abbrev pub queue_of : List JournaledRow → QueueRow → Queue
-queue_of rows row = record { id = row.id; name = row.name; address = row.address; messages = held_by row.id rows }
+queue_of rows row = record {
+  id = row.id;
+  name = row.name;
+  address = row.address;
+  filter = row.filter;
+  messages = held_by row.id rows;
+}
 
 -- the durable part that a state stands for
 abbrev pub durable_part : Durable → BrokerDurable
@@ -56,7 +62,7 @@ pub record FoldsTo (contents : Contents) (d : Durable) : Type 0 where
   pub entries : List Entry
   pub says : JournalOf contents batches
   pub spelled : SpellBatches batches entries
-  pub folded : fold fresh entries ≡ Some d
+  pub folded : Folds fresh entries d
 
 -- the durable part is that of the state that the journal gives
 pub record Denotes (contents : Contents) (durable : BrokerDurable) : Type 0 where

@@ -1,5 +1,5 @@
 -- Payload after payload is folded, or one of them breaks a rule.
-use Rattle.std.specs.Prelude.{◌≡◌, ◌⊎◌, ◌++◌, ◌∷◌, ℕ, List, map, Some}
+use Rattle.std.specs.Prelude.{◌≡◌, ◌⊎◌, ◌++◌, ◌∷◌, ℕ, List, map}
 use Rattle.pg_disk.specs.declared.fault.Damage.{Damage}
 use Rattle.pg_disk.specs.declared.fault.Fault.{Fault}
 use Rattle.pg_disk.specs.declared.fault.Fault.TheVariants.{Failed, Damaged, Spent, Memory}
@@ -12,19 +12,19 @@ use Rattle.pg_records.specs.Entries.{SpellsBatch, SpellBatches}
 use Rattle.pg_fold.specs.declared.durable.Durable.{Durable}
 use Rattle.pg_fold.specs.declared.fold_error.FoldError.{FoldError}
 use Rattle.pg_fold.specs.declared.fold_error.FoldError.TheVariants.{Broken, Memory as NoMemory}
-use Rattle.pg_fold.specs.Fold.{fold, rule_of}
+use Rattle.pg_fold.specs.Fold.{Breaks, Folds}
 
 -- the payload spells entries which lead from the one state to the other
 pub record FoldsPayload (d : Durable) (payload : List ℕ) (after : Durable) : Type 0 where
   pub entries : List Entry
   pub spelled : SpellsBatch payload entries
-  pub folded : fold d entries ≡ Some after
+  pub folded : Folds d entries after
 
 -- the same of payload after payload
 pub record FoldsFrom (d : Durable) (payloads : List (List ℕ)) (after : Durable) : Type 0 where
   pub entries : List Entry
   pub spelled : SpellBatches payloads entries
-  pub folded : fold d entries ≡ Some after
+  pub folded : Folds d entries after
 
 -- The entries in front of some entry lead to a state in which its condition fails, by this rule.
 pub record HaveBroken (d : Durable) (entries : List Entry) (rule : Rule) : Type 0 where
@@ -33,8 +33,8 @@ pub record HaveBroken (d : Durable) (entries : List Entry) (rule : Rule) : Type 
   pub behind : List Entry
   pub are : entries ≡ before ++ entry ∷ behind
   pub state : Durable
-  pub folded : fold d before ≡ Some state
-  pub broken : rule_of state entry ≡ Some rule
+  pub folded : Folds d before state
+  pub broken : Breaks state entry rule
 
 -- The payload spells no list of entries, or the first one that it spells whose condition fails breaks the rule.
 abbrev pub IsBrokenPayload : Durable → List ℕ → Rule → Type 0

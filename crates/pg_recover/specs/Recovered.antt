@@ -15,7 +15,7 @@ use Rattle.pg_gate.specs.Spans.{IsMendable}
 use Rattle.pg_records.specs.declared.entry.Entry.{Entry}
 use Rattle.pg_records.specs.Entries.{SpellBatches}
 use Rattle.pg_fold.specs.declared.durable.Durable.{Durable}
-use Rattle.pg_fold.specs.Fold.{fold, fresh}
+use Rattle.pg_fold.specs.Fold.{fresh, Folds}
 use Rattle.pg_fold.specs.Sound.{IsSound}
 use Rattle.pg_journal.specs.declared.journal.Journal.{Journal}
 use Rattle.pg_journal.specs.Generations.{first_generation, HasNoneThere}
@@ -37,7 +37,7 @@ pub record Owns (journal : Journal) (durable : Durable) (files : FinMap file_cmp
   pub entries : List Entry
   pub stands : Stands journal batches files
   pub spelled : SpellBatches batches entries
-  pub folded : fold fresh entries ≡ Some durable
+  pub folded : Folds fresh entries durable
   pub alone : (file : FileId) → file.kind ≡ OfJournal → file ≢ name_of journal → get files file ≡ None
 
 -- the journal gives what this makes of the state that it gave, and files that were well formed are

@@ -1,4 +1,4 @@
--- Which directories are well formed, as far as it is built: filters, frames, large messages and transactions aren't.
+-- Which directories are well formed, as far as it is built: frames, large messages and transactions aren't.
 use Rattle.std.specs.Prelude.{◌≡◌, ◌≢◌, ◌<◌, ◌≤◌, ◌+◌, ◌^◌, ℕ, List, All, Some, true}
 use Rattle.pg_disk.specs.declared.file_id.FileId.{FileId}
 use Rattle.pg_disk.specs.declared.file_id.Kind.{Kind}

@@ -1,7 +1,7 @@
 // Payload after payload is decoded, and entry after entry applied.
-ghost use Rattle.std.specs.Prelude.{◌≡◌, Some, length, IfOk, IfErr};
+ghost use Rattle.std.specs.Prelude.{◌≡◌, length, IfOk, IfErr};
 ghost use Rattle.pg_records.specs.Entries.{HaveFields};
-ghost use Rattle.pg_fold.specs.Fold.{fold};
+ghost use Rattle.pg_fold.specs.Fold.{Folds};
 ghost use Rattle.pg_fold.specs.Sound.{IsSound};
 ghost use Rattle.pg_recover.specs.Folding.{FoldsFrom, FoldsPayload, HaveBroken, IsBroken, IsBrokenAmong};
 ghost use Rattle.pg_recover.specs.Folding.{IsBrokenPayload, IsDamage, IsDamageAt};
@@ -22,7 +22,7 @@ fn fold_entries(
 ) -> Result<Durable, FoldError>
     requires fields { HaveFields entries.items }
     requires sound { IsSound durable }
-    ensures folded { IfOk result (λ after. fold durable entries.items ≡ Some after) }
+    ensures folded { IfOk result (Folds durable entries.items) }
     ensures sound { IfOk result IsSound }
     ensures broken { IfErr result (IsBroken (HaveBroken durable entries.items)) }
 {

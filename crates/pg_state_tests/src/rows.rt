@@ -116,6 +116,16 @@ fn counts_up(alloc: Global) -> Result<bool, FoldError> {
     Ok(has_queue(&last, 3, 4_294_967_294, 2, "U") && counts(&last) == (2, 4, 2, 7, 4_294_967_295))
 }
 
+// Whether a queue keeps the text of its filter, as it is spelled.
+fn keeps_a_filter(alloc: Global) -> Result<bool, FoldError> {
+    let filtered = applied(alloc, made(alloc)?, queue(alloc, 5, 2, "U", " n  <5")?)?;
+    let row = filtered.queues.as_slice().get(3);
+    Ok(
+        row.is_some_and(|row| row.filter.as_str() == " n  <5")
+            && counts(&filtered) == (2, 4, 2, 2, 6),
+    )
+}
+
 // Whether the last queue has no next one.
 fn ends(alloc: Global) -> Result<bool, FoldError> {
     let rule = broken(
@@ -129,6 +139,12 @@ fn ends(alloc: Global) -> Result<bool, FoldError> {
 #[test]
 fn makes_the_rows(rt: HostRuntime) -> Result<(), Fail> {
     assert!(rt; makes(rt.alloc())?);
+    Ok(())
+}
+
+#[test]
+fn keeps_the_text_of_a_filter(rt: HostRuntime) -> Result<(), Fail> {
+    assert!(rt; keeps_a_filter(rt.alloc())?);
     Ok(())
 }
 

@@ -6,7 +6,7 @@ use pg_disk::Rule;
 use pg_fold::FoldError;
 use pg_msg::MessageId;
 use pg_records::Entry;
-use std::alloc::Global;
+use std::alloc::{AllocError, Global};
 use std::test::Fail;
 
 const ADDRESSES: [(u32, &str, Settings, Option<Rule>); 14] = [
@@ -33,7 +33,7 @@ const ADDRESSES: [(u32, &str, Settings, Option<Rule>); 14] = [
     (3, "A", (50, 0, 64, 2), Some(Rule::Repeat)),
 ];
 
-const QUEUES: [(u32, u32, &str, &str, Option<Rule>); 11] = [
+const QUEUES: [(u32, u32, &str, &str, Option<Rule>); 15] = [
     (5, 1, "U", "", None),
     // named as the queue that was dropped, and as an address
     (5, 2, "T", "", None),
@@ -44,10 +44,19 @@ const QUEUES: [(u32, u32, &str, &str, Option<Rule>); 11] = [
     (5, 1, "S", "", Some(Rule::Repeat)),
     (5, 0, "U", "", Some(Rule::Name)),
     (5, 3, "U", "", Some(Rule::Name)),
-    (5, 1, "U", "n < 5", Some(Rule::Name)),
+    // with a filter
+    (5, 1, "U", "n < 5", None),
+    (5, 3, "U", "n < 5", Some(Rule::Name)),
+    // with a text that is no filter
+    (5, 1, "U", "n <", Some(Rule::Name)),
+    (5, 1, "U", " ", Some(Rule::Name)),
+    (5, 1, "U", "a = 1 = 2", Some(Rule::Name)),
     // both parts fail
-    (5, 3, "Q", "n < 5", Some(Rule::Repeat)),
+    (5, 3, "Q", "n <", Some(Rule::Repeat)),
 ];
+
+// How many bytes a name has that is a filter, and the rule that the queue with it breaks.
+const LENGTHS: [(usize, Option<Rule>); 2] = [(4_096, None), (4_097, Some(Rule::Name))];
 
 const MESSAGES: [(u32, &[u32], u32, u32, Option<Rule>); 12] = [
     (1, &[1, 2], 1, 2, None),
@@ -119,6 +128,25 @@ fn wrong_queue(alloc: Global) -> Result<Option<u32>, FoldError> {
     Ok(None)
 }
 
+// A filter that is a name of so many bytes.
+fn name_of(alloc: Global, length: usize) -> Result<String, AllocError> {
+    let mut name = String::new(alloc);
+    for _ in 0..length {
+        name.push_str("a")?;
+    }
+    Ok(name)
+}
+
+fn wrong_length(alloc: Global) -> Result<Option<usize>, FoldError> {
+    for (length, rule) in LENGTHS {
+        let filter = name_of(alloc, length)?;
+        if broken_there(alloc, queue(alloc, 5, 1, "U", filter.as_str())?)? != rule {
+            return Ok(Some(length));
+        }
+    }
+    Ok(None)
+}
+
 fn wrong_message(alloc: Global) -> Result<Option<u32>, FoldError> {
     for (at, queues, epoch, number, rule) in MESSAGES {
         let id = MessageId { epoch, number };
@@ -168,7 +196,8 @@ fn tells_the_rule_that_an_address_breaks(rt: HostRuntime) -> Result<(), Fail> {
 
 #[test]
 fn tells_the_rule_that_a_queue_breaks(rt: HostRuntime) -> Result<(), Fail> {
-    assert!(rt; wrong_queue(rt.alloc())?.is_none());
+    let alloc = rt.alloc();
+    assert!(rt; wrong_queue(alloc)?.is_none() && wrong_length(alloc)?.is_none());
     Ok(())
 }
 

@@ -1,4 +1,4 @@
-use Rattle.std.proofs.Common.{◌≡◌, ◌∙◌, ◌+◌, ◌<◌, ℕ, List, ◌∷◌, [], ◌++◌, length, get_or, take, drop, Some, refl, sym, ap, subst}
+use Rattle.std.proofs.Common.{◌≡◌, ◌∙◌, ◌+◌, ◌<◌, ℕ, List, ◌∷◌, [], ◌++◌, length, get_or, take, drop, refl, sym, subst}
 use Rattle.std.proofs.lemmas.Iterator.Adapters.{YieldsList-from_vec}
 use Rattle.std.proofs.lemmas.Iterator.Consumers.{YieldsList-turn, YieldsList-end}
 use Rattle.std.proofs.lemmas.Result.{err_from_is_err_and}
@@ -9,7 +9,7 @@ use Rattle.pg_records.proofs.BatchBytes.{next_fields}
 use Rattle.pg_fold.specs.declared.durable.Durable.{Durable}
 use Rattle.pg_fold.specs.declared.fold_error.FoldError.{FoldError}
 use Rattle.pg_fold.specs.declared.fold_error.FoldError.TheVariants.{Broken, Memory}
-use Rattle.pg_fold.specs.Fold.{fold, rule_of, IsBrokenBy}
+use Rattle.pg_fold.specs.Fold.{Folds, IsBrokenBy}
 use Rattle.pg_fold.proofs.SoundLaws.{sound_kept}
 use Rattle.pg_recover.specs.Folding.{HaveBroken, IsBroken}
 use Rattle.pg_recover.proofs.FoldingLemmas.{entry_applied, entry_broken, entries_done}
@@ -32,12 +32,12 @@ loop-entry-preserved c =
     record {
       fields = subst (λ n. HaveFields (drop n c.args.entries.items)) (sym more) fields.1;
       sound = sound_kept c.loop-entry.durable c.in_ok-durable.durable c.in-Some.entry c.loop-entry.invariant.sound fields.0 c.in_ok-durable.ensures.applied;
-      so_far = ap (λ n. fold c.args.durable (take n c.args.entries.items)) more
-          ∙ entry_applied c.args.durable c.loop-entry.durable c.in_ok-durable.durable c.args.entries.items (length c.loop-entry.yielded) c.in-Some.entry t.0 t.1 c.loop-entry.invariant.so_far c.in_ok-durable.ensures.applied;
+      so_far = subst (λ n. Folds c.args.durable (take n c.args.entries.items) c.in_ok-durable.durable) (sym more)
+          (entry_applied c.args.durable c.loop-entry.durable c.in_ok-durable.durable c.args.entries.items (length c.loop-entry.yielded) c.in-Some.entry t.0 t.1 c.loop-entry.invariant.so_far c.in_ok-durable.ensures.applied);
     }
 
 -- the entry that was yielded breaks the rule
-broken : (d start : Durable) (all : List Entry) (n : ℕ) (x : Entry) (e : FoldError) → n < length all → x ≡ get_or all n x → fold start (take n all) ≡ Some d → IsBrokenBy (rule_of d x) e → IsBroken (HaveBroken start all) e
+broken : (d start : Durable) (all : List Entry) (n : ℕ) (x : Entry) (e : FoldError) → n < length all → x ≡ get_or all n x → Folds start (take n all) d → IsBrokenBy d x e → IsBroken (HaveBroken start all) e
 broken d start all n x (Broken rule) inside is so_far here = entry_broken start d all n x rule inside is so_far here
 broken d start all n x Memory inside is so_far here = tt
 
