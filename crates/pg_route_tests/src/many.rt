@@ -7,7 +7,7 @@ use std::test::Fail;
 const COUNT: u32 = 1_000;
 
 // The name of the queue of that number, which no other has: its digits.
-fn name(alloc: Global, number: u32) -> Result<String, AllocError> {
+pub fn name(alloc: Global, number: u32) -> Result<String, AllocError> {
     let mut name = String::new(alloc);
     let mut rest = number;
     for _ in 0..4 {
@@ -33,7 +33,14 @@ fn filled(alloc: Global) -> Result<Option<Routes>, AllocError> {
     }
     for id in 1..COUNT + 1 {
         let name = name(alloc, id)?;
-        if !adds_queue(&mut routes, alloc, id, (id + 9) % 10 + 1, name.as_str())? {
+        if !adds_queue(
+            &mut routes,
+            alloc,
+            id,
+            (id + 9) % 10 + 1,
+            name.as_str(),
+            None,
+        )? {
             return Ok(None);
         }
     }
@@ -61,7 +68,7 @@ fn renews(routes: &mut Routes, alloc: Global, id: u32) -> Result<bool, AllocErro
     let next = id.saturating_add(COUNT);
     Ok(
         routes.queue_id(name.as_str()).is_none()
-            && adds_queue(routes, alloc, next, 1, name.as_str())?
+            && adds_queue(routes, alloc, next, 1, name.as_str(), None)?
             && routes.queue_id(name.as_str()) == Some(next),
     )
 }

@@ -1,4 +1,5 @@
 use pg_bytes::Text;
+use pg_parse::Tree;
 use pg_routes::Routes;
 use std::alloc::{AllocError, Global};
 use std::test::Fail;
@@ -25,12 +26,13 @@ pub fn adds_queue(
     id: u32,
     address: u32,
     name: &str,
+    filter: Option<Tree>,
 ) -> Result<bool, AllocError> {
     let name = Text::from_str(alloc, name)?;
     if routes.has_queue(id) || routes.queue_id(name.as_str()).is_some() {
         return Ok(false);
     }
-    routes.add_queue(alloc, id, address, name)?;
+    routes.add_queue(alloc, id, address, name, filter)?;
     Ok(true)
 }
 
@@ -147,7 +149,7 @@ const STEPS: [Step; 14] = [
 fn takes(routes: &mut Routes, alloc: Global, turn: &Turn) -> Result<bool, AllocError> {
     match turn {
         Turn::Address(id, name) => adds_address(routes, alloc, *id, name),
-        Turn::Queue(id, address, name) => adds_queue(routes, alloc, *id, *address, name),
+        Turn::Queue(id, address, name) => adds_queue(routes, alloc, *id, *address, name, None),
         Turn::Drop(id) => {
             routes.drop_queue(*id);
             Ok(!routes.has_queue(*id))

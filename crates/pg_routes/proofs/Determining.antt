@@ -9,9 +9,11 @@ use Rattle.pg_msg.specs.declared.reply.Reply.TheVariants as answer
 use Rattle.pg_model.specs.Actions.{Action, MakeAddress, MakeQueue, DropQueue, Send, Open, Receive, Acknowledge, Cancel, Close, Count}
 use Rattle.pg_model.specs.Broker.{Broker, address_named, queue_named, queue_with, consumer_named}
 use Rattle.pg_model.specs.Changes.{with_durable, with_consumers, with_queues, with_queue, without_queue, acknowledged, without_id, with_flights}
-use Rattle.pg_model.specs.Refusals.{View, routed, causes}
+use Rattle.pg_model.specs.Refusals.{View}
+use Rattle.pg_model.specs.Routing.{IsRouted, queues_of, text_of}
 use Rattle.pg_model.specs.Steps.{Sends, Gives, IsDone, Does, Answers, Acts, Takes, available}
-use Rattle.pg_model.proofs.CauseLaws.{one_first}
+use Rattle.pg_model.proofs.CauseLaws.{refused_once}
+use Rattle.pg_model.proofs.RoutingLaws.{goes_once}
 
 -- one reply and one state
 pub record AreOne (reply other : Reply) (t u : Broker) : Type 0 where
@@ -30,22 +32,33 @@ send_once : (s t u : Broker) (numbers : List ℕ) (properties : List Property) (
 send_once s t u [] properties body reply other this that = same_end this that
 send_once s t u (number ∷ numbers) properties body reply other this that = same_end this that
 
+-- a message that comes to the address of this id
+abbrev pub SentFrom : Broker → Broker → List Property → List ℕ → Reply → ℕ → Type 0
+SentFrom s t properties body reply address = (numbers : List ℕ) × IsRouted s address properties numbers × Sends s numbers properties body reply t
+
+sent_once : (s t u : Broker) (address : ℕ) (properties : List Property) (body : List ℕ) (reply other : Reply)
+    → SentFrom s t properties body reply address → SentFrom s u properties body other address → AreOne reply other t u
+sent_once s t u address properties body reply other this that =
+    let same : that.0 ≡ this.0 = goes_once properties (queues_of address s.durable.queues) that.0 this.0 that.1 this.1 in
+    send_once s t u this.0 properties body reply other this.2 (subst (λ numbers. Sends s numbers properties body other u) same that.2)
+
 give_once : (s t u : Broker) (consumer : List ℕ) (o : Option Message) (reply other : Reply) → Gives s consumer o reply t → Gives s consumer o other u → AreOne reply other t u
 give_once s t u consumer None reply other this that = same_end this that
 give_once s t u consumer (Some m) reply other this that = same_end this that
 
 does_once : (s t u : Broker) (action : Action) (reply other : Reply) → Does s action reply t → Does s action other u → AreOne reply other t u
 does_once s t u (MakeAddress name settings) reply other this that = same_end this that
-does_once s t u (MakeQueue name address) reply other this that =
-    let at = both (address_named s.durable.addresses address) (λ id. IsDone reply t (with_durable s (with_queue s.durable name id))) (λ id. IsDone other u (with_durable s (with_queue s.durable name id))) this that in
+does_once s t u (MakeQueue name address filter) reply other this that =
+    let at = both (address_named s.durable.addresses address) (λ id. IsDone reply t (with_durable s (with_queue s.durable name id (text_of filter))))
+    (λ id. IsDone other u (with_durable s (with_queue s.durable name id (text_of filter)))) this.1 that.1 in
     same_end at.1 at.2
 does_once s t u (DropQueue name) reply other this that =
     let at = both (queue_named s.durable.queues name) (λ q. IsDone reply t (with_durable s (with_queues s.durable (without_queue q.id s.durable.queues))))
     (λ q. IsDone other u (with_durable s (with_queues s.durable (without_queue q.id s.durable.queues)))) this that in
     same_end at.1 at.2
 does_once s t u (Send address properties body) reply other this that =
-    let at = both (address_named s.durable.addresses address) (λ id. Sends s (routed s id) properties body reply t) (λ id. Sends s (routed s id) properties body other u) this that in
-    send_once s t u (routed s at.0) properties body reply other at.1 at.2
+    let at = both (address_named s.durable.addresses address) (SentFrom s t properties body reply) (SentFrom s u properties body other) this that in
+    sent_once s t u at.0 properties body reply other at.1 at.2
 does_once s t u (Open name on) reply other this that =
     let at = both (queue_named s.durable.queues on) (λ q. IsDone reply t (with_consumers s (s.running.consumers ++ (record { name = name; queue = q.id; in_flight = [] } ∷ []))))
     (λ q. IsDone other u (with_consumers s (s.running.consumers ++ (record { name = name; queue = q.id; in_flight = [] } ∷ [])))) this that in
@@ -73,7 +86,7 @@ answers_once s t u action (Some refusal) reply other this that = same_end this t
 pub acts_once : (view : View) (s t u : Broker) (action : Action) (reply other : Reply) → Acts view s action reply t → Acts view s action other u → AreOne reply other t u
 acts_once view s t u action reply other this that =
     answers_once s t u action this.refusal reply other this.answers
-    (subst (λ refusal. Answers s action refusal other u) (one_first (causes view s action) that.refusal this.refusal that.first this.first) that.answers)
+    (subst (λ refusal. Answers s action refusal other u) (refused_once view s action that.refusal this.refusal that.first this.first) that.answers)
 
 pub takes_once : (view : View) (s t u : Broker) (asked : Option Action) (reply other : Reply) → Takes view s asked reply t → Takes view s asked other u → AreOne reply other t u
 takes_once view s t u None reply other this that = same_end this that

@@ -9,11 +9,13 @@ use Rattle.pg_msg.specs.declared.reply.Refusal.{Refusal}
 use Rattle.pg_msg.specs.declared.reply.Reply.{Reply}
 use Rattle.pg_msg.specs.declared.reply.Reply.TheVariants as answer
 use Rattle.pg_model.specs.Actions.{Action, MakeAddress, MakeQueue, DropQueue, Send, Open, Receive, Acknowledge, Cancel, Close, Count}
-use Rattle.pg_model.specs.Broker.{Queue, Broker, IsLive, IsValid, address_named, queue_named, queue_with, consumer_named}
-use Rattle.pg_model.specs.Changes.{with_durable, with_consumers, with_queues, with_queue, without_queue, given_to, relieved, acknowledged, without_id, with_flights, next_id, message_of}
-use Rattle.pg_model.specs.Refusals.{View, routed}
+use Rattle.pg_model.specs.Broker.{Queue, Broker, IsLive, IsValid, queue_named, queue_with, consumer_named}
+use Rattle.pg_model.specs.Changes.{with_durable, with_consumers, with_queues, without_queue, given_to, relieved, acknowledged, without_id, with_flights, next_id, message_of}
+use Rattle.pg_model.specs.Refusals.{View}
+use Rattle.pg_model.specs.Routing.{text_of}
 use Rattle.pg_model.specs.Steps.{Sends, Gives, IsDone, Does, Answers, Takes, available, asked}
 use Rattle.pg_routes.specs.Laws.{IsLater, itself, after_line, after_opening}
+use Rattle.pg_routes.proofs.Done.{QueueMade, queue_made, MessageSent, message_sent}
 use Rattle.pg_routes.proofs.Members.{matched, from_mapped, from_filtered}
 use Rattle.pg_routes.proofs.Queues.{given_id, relieved_id}
 
@@ -50,18 +52,18 @@ over_give s t consumer (Some m) reply queue gives over = subst (λ u. IsOver u q
 
 over_does : (s t : Broker) (action : Action) (reply : Reply) (queue : ℕ) → Does s action reply t → IsOver s queue → IsOver t queue
 over_does s t (MakeAddress name settings) reply queue does over = subst (λ u. IsOver u queue) (sym does.1) (record { below = over.below; gone = over.gone })
-over_does s t (MakeQueue name address) reply queue does over =
-    let at = matched (address_named s.durable.addresses address) (λ id. IsDone reply t (with_durable s (with_queue s.durable name id))) does in
-    subst (λ u. IsOver u queue) (sym at.2.1) (record {
+over_does s t (MakeQueue name address filter) reply queue does over =
+    let made : QueueMade s t name address filter reply = queue_made s t name address filter reply does in
+    subst (λ u. IsOver u queue) (sym made.is) (record {
       below = omega (arith, over.below);
-      gone = gone_more (record { id = s.durable.next; name = name; address = at.0; messages = [] }) s.durable.queues queue over.below over.gone;
+      gone = gone_more (record { id = s.durable.next; name = name; address = made.at; filter = text_of filter; messages = [] }) s.durable.queues queue over.below over.gone;
     })
 over_does s t (DropQueue name) reply queue does over =
     let at = matched (queue_named s.durable.queues name) (λ q. IsDone reply t (with_durable s (with_queues s.durable (without_queue q.id s.durable.queues)))) does in
     subst (λ u. IsOver u queue) (sym at.2.1) (record { below = over.below; gone = gone_left at.0.id s.durable.queues queue over.gone })
 over_does s t (Send address properties body) reply queue does over =
-    let at = matched (address_named s.durable.addresses address) (λ id. Sends s (routed s id) properties body reply t) does in
-    over_send s t (routed s at.0) properties body reply queue at.2 over
+    let sent : MessageSent s t address properties body reply = message_sent s t address properties body reply does in
+    over_send s t sent.numbers properties body reply queue sent.sends over
 over_does s t (Open name on) reply queue does over =
     let at = matched (queue_named s.durable.queues on) (λ q. IsDone reply t (with_consumers s (s.running.consumers ++ (record { name = name; queue = q.id; in_flight = [] } ∷ [])))) does in
     subst (λ u. IsOver u queue) (sym at.2.1) (record { below = over.below; gone = over.gone })
@@ -105,15 +107,15 @@ given_give s t consumer (Some m) reply queue gives was = subst (λ u. IsGiven u 
 
 given_does : (s t : Broker) (action : Action) (reply : Reply) (queue : ℕ) → Does s action reply t → IsGiven s queue → IsGiven t queue
 given_does s t (MakeAddress name settings) reply queue does was = subst (λ u. IsGiven u queue) (sym does.1) (record { below = was.below })
-given_does s t (MakeQueue name address) reply queue does was =
-    let at = matched (address_named s.durable.addresses address) (λ id. IsDone reply t (with_durable s (with_queue s.durable name id))) does in
-    subst (λ u. IsGiven u queue) (sym at.2.1) (record { below = omega (arith, was.below) })
+given_does s t (MakeQueue name address filter) reply queue does was =
+    let made : QueueMade s t name address filter reply = queue_made s t name address filter reply does in
+    subst (λ u. IsGiven u queue) (sym made.is) (record { below = omega (arith, was.below) })
 given_does s t (DropQueue name) reply queue does was =
     let at = matched (queue_named s.durable.queues name) (λ q. IsDone reply t (with_durable s (with_queues s.durable (without_queue q.id s.durable.queues)))) does in
     subst (λ u. IsGiven u queue) (sym at.2.1) (record { below = was.below })
 given_does s t (Send address properties body) reply queue does was =
-    let at = matched (address_named s.durable.addresses address) (λ id. Sends s (routed s id) properties body reply t) does in
-    given_send s t (routed s at.0) properties body reply queue at.2 was
+    let sent : MessageSent s t address properties body reply = message_sent s t address properties body reply does in
+    given_send s t sent.numbers properties body reply queue sent.sends was
 given_does s t (Open name on) reply queue does was =
     let at = matched (queue_named s.durable.queues on) (λ q. IsDone reply t (with_consumers s (s.running.consumers ++ (record { name = name; queue = q.id; in_flight = [] } ∷ [])))) does in
     subst (λ u. IsGiven u queue) (sym at.2.1) (record { below = was.below })

@@ -11,11 +11,13 @@ use Rattle.pg_msg.specs.declared.reply.Refusal.{Refusal}
 use Rattle.pg_msg.specs.declared.reply.Reply.{Reply}
 use Rattle.pg_msg.specs.declared.reply.Reply.TheVariants as answer
 use Rattle.pg_model.specs.Actions.{Action, MakeAddress, MakeQueue, DropQueue, Send, Open, Receive, Acknowledge, Cancel, Close, Count}
-use Rattle.pg_model.specs.Broker.{Queue, Consumer, Broker, IsDrawn, address_named, queue_named, queue_with, consumer_named, opened_from}
-use Rattle.pg_model.specs.Changes.{with_durable, with_consumers, with_queues, with_queue, without_queue, acknowledged, without_id, with_flights, next_id, message_of}
-use Rattle.pg_model.specs.Refusals.{View, routed}
+use Rattle.pg_model.specs.Broker.{Queue, Consumer, Broker, IsDrawn, queue_named, queue_with, consumer_named, opened_from}
+use Rattle.pg_model.specs.Changes.{with_durable, with_consumers, with_queues, without_queue, acknowledged, without_id, with_flights, next_id, message_of}
+use Rattle.pg_model.specs.Refusals.{View}
+use Rattle.pg_model.specs.Routing.{text_of}
 use Rattle.pg_model.specs.Steps.{Sends, Gives, IsDone, Does, Answers, Acts, Takes, Run, available, asked}
 use Rattle.pg_routes.specs.Laws.{IsIn, IsOut, TakesOut, IsLater, itself, after_line, after_opening, any_view}
+use Rattle.pg_routes.proofs.Done.{QueueMade, queue_made, MessageSent, message_sent}
 use Rattle.pg_routes.proofs.Members.{matched, is_matched}
 use Rattle.pg_routes.proofs.Queues.{next_is_new, still_drawn, drawn_before, in_given, in_acknowledged, in_left, in_more, out_of_given, out_of_acknowledged, out_of_left, out_of_more}
 
@@ -40,18 +42,18 @@ past_give s t consumer (Some m) reply queue id gives past = subst (λ u. IsPast 
 past_does : (s t : Broker) (action : Action) (reply : Reply) (queue : ℕ) (id : MessageId) → Does s action reply t → IsPast s queue id → IsPast t queue id
 past_does s t (MakeAddress name settings) reply queue id does past =
     subst (λ u. IsPast u queue id) (sym does.1) (record { drawn = past.drawn; out = past.out })
-past_does s t (MakeQueue name address) reply queue id does past =
-    let at = matched (address_named s.durable.addresses address) (λ id. IsDone reply t (with_durable s (with_queue s.durable name id))) does in
-    subst (λ u. IsPast u queue id) (sym at.2.1) (record {
+past_does s t (MakeQueue name address filter) reply queue id does past =
+    let made : QueueMade s t name address filter reply = queue_made s t name address filter reply does in
+    subst (λ u. IsPast u queue id) (sym made.is) (record {
       drawn = past.drawn;
-      out = out_of_more (record { id = s.durable.next; name = name; address = at.0; messages = [] }) s.durable.queues queue id refl past.out;
+      out = out_of_more (record { id = s.durable.next; name = name; address = made.at; filter = text_of filter; messages = [] }) s.durable.queues queue id refl past.out;
     })
 past_does s t (DropQueue name) reply queue id does past =
     let at = matched (queue_named s.durable.queues name) (λ q. IsDone reply t (with_durable s (with_queues s.durable (without_queue q.id s.durable.queues)))) does in
     subst (λ u. IsPast u queue id) (sym at.2.1) (record { drawn = past.drawn; out = out_of_left at.0.id s.durable.queues queue id past.out })
 past_does s t (Send address properties body) reply queue id does past =
-    let at = matched (address_named s.durable.addresses address) (λ id. Sends s (routed s id) properties body reply t) does in
-    past_send s t (routed s at.0) properties body reply queue id at.2 past
+    let sent : MessageSent s t address properties body reply = message_sent s t address properties body reply does in
+    past_send s t sent.numbers properties body reply queue id sent.sends past
 past_does s t (Open name on) reply queue id does past =
     let at = matched (queue_named s.durable.queues on) (λ q. IsDone reply t (with_consumers s (s.running.consumers ++ (record { name = name; queue = q.id; in_flight = [] } ∷ [])))) does in
     subst (λ u. IsPast u queue id) (sym at.2.1) (record { drawn = past.drawn; out = past.out })
@@ -142,15 +144,15 @@ stays_ack s t consumer c acked queue m named ends is (inr elsewhere) either =
 
 stays_does : (s t : Broker) (action : Action) (reply : Reply) (queue : ℕ) (m : Message) → Does s action reply t → IsIn s.durable.queues queue m → IsStaying s t action queue m
 stays_does s t (MakeAddress name settings) reply queue m does is = inl (subst (λ (u : Broker). IsIn u.durable.queues queue m) (sym does.1) is)
-stays_does s t (MakeQueue name address) reply queue m does is =
-    let at = matched (address_named s.durable.addresses address) (λ id. IsDone reply t (with_durable s (with_queue s.durable name id))) does in
-    inl (subst (λ (u : Broker). IsIn u.durable.queues queue m) (sym at.2.1) (in_more (record { id = s.durable.next; name = name; address = at.0; messages = [] }) s.durable.queues queue m is))
+stays_does s t (MakeQueue name address filter) reply queue m does is =
+    let made : QueueMade s t name address filter reply = queue_made s t name address filter reply does in
+    inl (subst (λ (u : Broker). IsIn u.durable.queues queue m) (sym made.is) (in_more (record { id = s.durable.next; name = name; address = made.at; filter = text_of filter; messages = [] }) s.durable.queues queue m is))
 stays_does s t (DropQueue name) reply queue m does is =
     let at = matched (queue_named s.durable.queues name) (λ q. IsDone reply t (with_durable s (with_queues s.durable (without_queue q.id s.durable.queues)))) does in
     stays_drop s t name at.0 queue m at.1 at.2.1 is (cases_eq queue at.0.id)
 stays_does s t (Send address properties body) reply queue m does is =
-    let at = matched (address_named s.durable.addresses address) (λ id. Sends s (routed s id) properties body reply t) does in
-    inl (stays_send s t (routed s at.0) properties body reply queue m at.2 is)
+    let sent : MessageSent s t address properties body reply = message_sent s t address properties body reply does in
+    inl (stays_send s t sent.numbers properties body reply queue m sent.sends is)
 stays_does s t (Open name on) reply queue m does is =
     let at = matched (queue_named s.durable.queues on) (λ q. IsDone reply t (with_consumers s (s.running.consumers ++ (record { name = name; queue = q.id; in_flight = [] } ∷ [])))) does in
     inl (subst (λ (u : Broker). IsIn u.durable.queues queue m) (sym at.2.1) is)

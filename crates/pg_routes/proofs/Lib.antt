@@ -1,4 +1,5 @@
 pub mod Determining
+pub mod Done
 pub mod Dropping
 pub mod Flights
 pub mod Keeping
@@ -14,5 +15,6 @@ pub mod Refusing
 pub mod RowLaws
 pub mod Rows
 pub mod Stepping
+pub mod Takers
 pub mod Validity
 pub mod Views

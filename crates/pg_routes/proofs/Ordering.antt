@@ -12,11 +12,13 @@ use Rattle.pg_msg.specs.declared.reply.Refusal.{Refusal}
 use Rattle.pg_msg.specs.declared.reply.Reply.{Reply}
 use Rattle.pg_msg.specs.declared.reply.Reply.TheVariants as answer
 use Rattle.pg_model.specs.Actions.{Action, MakeAddress, MakeQueue, DropQueue, Send, Open, Receive, Acknowledge, Cancel, Close, Count}
-use Rattle.pg_model.specs.Broker.{Queue, Broker, IsValid, address_named, queue_named, queue_with, consumer_named, same_id}
+use Rattle.pg_model.specs.Broker.{Queue, Broker, IsValid, queue_named, queue_with, consumer_named, same_id}
 use Rattle.pg_model.specs.Changes.{with_durable, with_consumers, with_queues, with_queue, without_queue, given_to, has_number, relieved, acknowledged, without_message, without_id, with_flights, next_id, message_of}
-use Rattle.pg_model.specs.Refusals.{View, routed}
+use Rattle.pg_model.specs.Refusals.{View}
+use Rattle.pg_model.specs.Routing.{text_of}
 use Rattle.pg_model.specs.Steps.{Sends, Gives, IsDone, Does, Answers, Acts, Takes, available}
 use Rattle.pg_routes.specs.Laws.{GoesOn}
+use Rattle.pg_routes.proofs.Done.{QueueMade, queue_made, MessageSent, message_sent}
 use Rattle.pg_routes.proofs.Members.{nothing_in, in_cases, each_in, matched, from_mapped, from_filtered}
 use Rattle.pg_routes.proofs.Parts.{Pairs, from_pairs, part_whole, part_filter}
 use Rattle.pg_routes.proofs.Queues.{given_id, relieved_id}
@@ -83,24 +85,24 @@ on_give s t consumer (Some m) reply valid gives = subst (λ u. AllGoOn s u) (sym
 on_drop : (s : Broker) (dropped : ℕ) → IsValid s → AllGoOn s (with_durable s (with_queues s.durable (without_queue dropped s.durable.queues)))
 on_drop s dropped valid = λ q r first second same. on_same s.durable.queues q r valid.ids first (from_filtered (λ q. not (q.id == dropped)) s.durable.queues r second).0 same
 
-on_queue : (s : Broker) (name : List ℕ) (address : ℕ) → IsValid s → AllGoOn s (with_durable s (with_queue s.durable name address))
-on_queue s name address valid = λ q r first second same.
-    elim (Contains-push_cases s.durable.queues (record { id = s.durable.next; name = name; address = address; messages = [] }) r second) [
+on_queue : (s : Broker) (name : List ℕ) (address : ℕ) (text : List ℕ) → IsValid s → AllGoOn s (with_durable s (with_queue s.durable name address text))
+on_queue s name address text valid = λ q r first second same.
+    elim (Contains-push_cases s.durable.queues (record { id = s.durable.next; name = name; address = address; filter = text; messages = [] }) r second) [
       | inl old ↦ on_same s.durable.queues q r valid.ids first old same
       | inr new ↦ absurd (omega (arith, same, ap (λ (q : Queue). q.id) new, All-contains (λ (q : Queue). q.id < s.durable.next) s.durable.queues q valid.below first))
     ]
 
 on_does : (s t : Broker) (action : Action) (reply : Reply) → IsValid s → Does s action reply t → AllGoOn s t
 on_does s t (MakeAddress name settings) reply valid does = subst (λ u. AllGoOn s u) (sym does.1) (on_rest s valid)
-on_does s t (MakeQueue name address) reply valid does =
-    let at = matched (address_named s.durable.addresses address) (λ id. IsDone reply t (with_durable s (with_queue s.durable name id))) does in
-    subst (λ u. AllGoOn s u) (sym at.2.1) (on_queue s name at.0 valid)
+on_does s t (MakeQueue name address filter) reply valid does =
+    let made : QueueMade s t name address filter reply = queue_made s t name address filter reply does in
+    subst (λ u. AllGoOn s u) (sym made.is) (on_queue s name made.at (text_of filter) valid)
 on_does s t (DropQueue name) reply valid does =
     let at = matched (queue_named s.durable.queues name) (λ q. IsDone reply t (with_durable s (with_queues s.durable (without_queue q.id s.durable.queues)))) does in
     subst (λ u. AllGoOn s u) (sym at.2.1) (on_drop s at.0.id valid)
 on_does s t (Send address properties body) reply valid does =
-    let at = matched (address_named s.durable.addresses address) (λ id. Sends s (routed s id) properties body reply t) does in
-    on_send s t (routed s at.0) properties body reply valid at.2
+    let sent : MessageSent s t address properties body reply = message_sent s t address properties body reply does in
+    on_send s t sent.numbers properties body reply valid sent.sends
 on_does s t (Open name on) reply valid does =
     let at = matched (queue_named s.durable.queues on) (λ q. IsDone reply t (with_consumers s (s.running.consumers ++ (record { name = name; queue = q.id; in_flight = [] } ∷ [])))) does in
     subst (λ u. AllGoOn s u) (sym at.2.1) (on_rest s valid)

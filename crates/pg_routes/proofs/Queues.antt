@@ -43,6 +43,9 @@ given_id numbers m q = cond_both (has_number numbers q.id) (record q { messages 
 pub given_name : (numbers : List ℕ) (m : Message) (q : Queue) → (given_to numbers m q).name ≡ q.name
 given_name numbers m q = cond_both (has_number numbers q.id) (record q { messages = q.messages ++ (m ∷ []) }) q (λ (other : Queue). other.name ≡ q.name) (λ _. refl) (λ _. refl)
 
+pub given_filter : (numbers : List ℕ) (m : Message) (q : Queue) → (given_to numbers m q).filter ≡ q.filter
+given_filter numbers m q = cond_both (has_number numbers q.id) (record q { messages = q.messages ++ (m ∷ []) }) q (λ (other : Queue). other.filter ≡ q.filter) (λ _. refl) (λ _. refl)
+
 pub given_keeps : (numbers : List ℕ) (m : Message) (q : Queue) (x : Message) → Contains q.messages x → Contains (given_to numbers m q).messages x
 given_keeps numbers m q x held =
     cond_both (has_number numbers q.id) (record q { messages = q.messages ++ (m ∷ []) }) q (λ (other : Queue). Contains other.messages x)
@@ -59,6 +62,9 @@ relieved_id queue id q = cond_both (q.id == queue) (record q { messages = withou
 
 pub relieved_name : (queue : ℕ) (id : MessageId) (q : Queue) → (relieved queue id q).name ≡ q.name
 relieved_name queue id q = cond_both (q.id == queue) (record q { messages = without_message id q.messages }) q (λ (other : Queue). other.name ≡ q.name) (λ _. refl) (λ _. refl)
+
+pub relieved_filter : (queue : ℕ) (id : MessageId) (q : Queue) → (relieved queue id q).filter ≡ q.filter
+relieved_filter queue id q = cond_both (q.id == queue) (record q { messages = without_message id q.messages }) q (λ (other : Queue). other.filter ≡ q.filter) (λ _. refl) (λ _. refl)
 
 pub relieved_from : (queue : ℕ) (id : MessageId) (q : Queue) (x : Message) → Contains (relieved queue id q).messages x → Contains q.messages x
 relieved_from queue id q x held =

@@ -8,10 +8,11 @@ use Rattle.pg_msg.specs.declared.reply.Refusal.{Refusal}
 use Rattle.pg_msg.specs.declared.reply.Reply.{Reply}
 use Rattle.pg_msg.specs.declared.reply.Reply.TheVariants as answer
 use Rattle.pg_model.specs.Actions.{Action, MakeAddress, MakeQueue, DropQueue, Send, Open, Receive, Acknowledge, Cancel, Close, Count}
-use Rattle.pg_model.specs.Broker.{Broker, address_named, queue_named, queue_with, consumer_named}
-use Rattle.pg_model.specs.Changes.{with_durable, with_consumers, with_queues, with_queue, without_queue, acknowledged, without_id, with_flights}
-use Rattle.pg_model.specs.Refusals.{View, routed}
+use Rattle.pg_model.specs.Broker.{Broker, queue_named, queue_with, consumer_named}
+use Rattle.pg_model.specs.Changes.{with_durable, with_consumers, with_queues, without_queue, acknowledged, without_id, with_flights}
+use Rattle.pg_model.specs.Refusals.{View}
 use Rattle.pg_model.specs.Steps.{Sends, Gives, IsDone, Does, Answers, Acts, Takes, available}
+use Rattle.pg_routes.proofs.Done.{QueueMade, queue_made, MessageSent, message_sent}
 use Rattle.pg_routes.proofs.Members.{matched}
 
 -- the reply of a line that may have changed something
@@ -30,15 +31,15 @@ quiet_give s t consumer (Some m) reply quiet gives = absurd (quiet.given m gives
 
 quiet_does : (s t : Broker) (action : Action) (reply : Reply) → IsQuiet reply → Does s action reply t → t ≡ s
 quiet_does s t (MakeAddress name settings) reply quiet does = absurd (quiet.done does.0)
-quiet_does s t (MakeQueue name address) reply quiet does =
-    let at = matched (address_named s.durable.addresses address) (λ id. IsDone reply t (with_durable s (with_queue s.durable name id))) does in
-    absurd (quiet.done at.2.0)
+quiet_does s t (MakeQueue name address filter) reply quiet does =
+    let made : QueueMade s t name address filter reply = queue_made s t name address filter reply does in
+    absurd (quiet.done made.done)
 quiet_does s t (DropQueue name) reply quiet does =
     let at = matched (queue_named s.durable.queues name) (λ q. IsDone reply t (with_durable s (with_queues s.durable (without_queue q.id s.durable.queues)))) does in
     absurd (quiet.done at.2.0)
 quiet_does s t (Send address properties body) reply quiet does =
-    let at = matched (address_named s.durable.addresses address) (λ id. Sends s (routed s id) properties body reply t) does in
-    quiet_send s t (routed s at.0) properties body reply quiet at.2
+    let sent : MessageSent s t address properties body reply = message_sent s t address properties body reply does in
+    quiet_send s t sent.numbers properties body reply quiet sent.sends
 quiet_does s t (Open name queue) reply quiet does =
     let at = matched (queue_named s.durable.queues queue) (λ q. IsDone reply t (with_consumers s (s.running.consumers ++ (record { name = name; queue = q.id; in_flight = [] } ∷ [])))) does in
     absurd (quiet.done at.2.0)

@@ -15,17 +15,20 @@ use Rattle.pg_msg.specs.declared.properties.Property.{Property}
 use Rattle.pg_msg.specs.declared.reply.Refusal.{Refusal}
 use Rattle.pg_msg.specs.declared.reply.Reply.{Reply}
 use Rattle.pg_msg.specs.declared.reply.Reply.TheVariants as answer
+use Rattle.pg_parse.specs.FilterTexts.{IsReadable}
 use Rattle.pg_model.specs.Actions.{Action, MakeAddress, MakeQueue, DropQueue, Send, Open, Receive, Acknowledge, Cancel, Close, Count}
-use Rattle.pg_model.specs.Broker.{Settings, Address, Queue, Consumer, Broker, Durable, same_id, AreHeld, HoldsMessage, IsDrawn, IsLive, IsValid, address_named, queue_named, queue_with, consumer_named, flights, fresh, opened_from}
+use Rattle.pg_model.specs.Broker.{Settings, Address, Queue, Consumer, Broker, Durable, same_id, AreHeld, HoldsMessage, IsDrawn, IsLive, IsValid, queue_named, queue_with, consumer_named, flights, fresh, opened_from}
 use Rattle.pg_model.specs.Causes.{IsFirst}
 use Rattle.pg_model.specs.Changes.{with_durable, with_consumers, with_queues, with_address, with_queue, without_queue, given_to, given, has_number, relieved, acknowledged, with_id, without_id, without_message, with_flights, without_consumer, next_id, message_of, with_message}
-use Rattle.pg_model.specs.Refusals.{View, HasAddress, HasQueue, HasConsumer, HasFlight, IsConsumed, routed, causes}
+use Rattle.pg_model.specs.Refusals.{View, HasAddress, HasQueue, HasConsumer, HasFlight, IsConsumed, causes}
+use Rattle.pg_model.specs.Routing.{text_of}
 use Rattle.pg_model.specs.Steps.{Sends, Gives, IsDone, Does, Answers, Acts, Takes, Run, available, asked, is_in_flight}
 use Rattle.pg_routes.specs.Laws.{IsPart, IsOut, MayOpen, IsLater, itself, after_line, after_opening, any_view}
 use Rattle.pg_routes.proofs.Flights.{Flight, changed, changed_name, changed_queue, flights_each, flights_opened, flights_without, flights_closed, flights_given_up, flights_put, none_in_flight}
+use Rattle.pg_routes.proofs.Done.{QueueMade, queue_made, MessageSent, message_sent, readable_text}
 use Rattle.pg_routes.proofs.Members.{matched, goes_on, each_in, in_first, in_rest, in_found, in_mapped, in_filtered, not_found, not_placed, none_any}
 use Rattle.pg_routes.proofs.Parts.{Pairs, IsPut, from_pairs, to_pairs, pairs_mapped, each_weaker, part_each, part_pairs, put_each, put_pairs}
-use Rattle.pg_routes.proofs.Queues.{next_is_new, still_drawn, given_id, given_name, relieved_id, relieved_name, in_given, in_acknowledged, in_left, in_more, holds_in, held_as, one_id, same_ids}
+use Rattle.pg_routes.proofs.Queues.{next_is_new, still_drawn, given_id, given_name, given_filter, relieved_id, relieved_name, relieved_filter, in_given, in_acknowledged, in_left, in_more, holds_in, held_as, one_id, same_ids}
 
 -- ---- names
 other_name : (name other : List ℕ) → bytes_eq name other ≡ false → other ≡ name → ⊥
@@ -50,6 +53,7 @@ valid_address s name settings valid new = record {
   names = valid.names;
   ids = valid.ids;
   below = valid.below;
+  readable = valid.readable;
   held = valid.held;
   consumers = valid.consumers;
   live = valid.live;
@@ -63,14 +67,15 @@ live_more new queues queue is = record { one = is.one; live = Contains-append_le
 holds_more : (new : Queue) (queues : List Queue) (queue : ℕ) (id : MessageId) → HoldsMessage queues queue id → HoldsMessage (queues ++ (new ∷ [])) queue id
 holds_more new queues queue id h = held_as (queues ++ (new ∷ [])) queue h.message id (in_more new queues queue h.message (holds_in queues queue id h)) h.is_message
 
-valid_queue : (s : Broker) (name : List ℕ) (address : ℕ) → IsValid s → (HasQueue s name → ⊥) → IsValid (with_durable s (with_queue s.durable name address))
-valid_queue s name address valid new =
-    let one : Queue = record { id = s.durable.next; name = name; address = address; messages = [] } in
+valid_queue : (s : Broker) (name : List ℕ) (address : ℕ) (text : List ℕ) → IsReadable text → IsValid s → (HasQueue s name → ⊥) → IsValid (with_durable s (with_queue s.durable name address text))
+valid_queue s name address text readable valid new =
+    let one : Queue = record { id = s.durable.next; name = name; address = address; filter = text; messages = [] } in
     record {
       addresses = valid.addresses;
       names = names_more (λ (q : Queue). q.name) one s.durable.queues (not_found (λ (q : Queue). bytes_eq name q.name) s.durable.queues new) valid.names;
       ids = all_pairs_push (λ (q other : Queue). q.id ≢ other.id) s.durable.queues one valid.ids (λ k q within is. omega (arith, is, valid.below k q within));
       below = All-push (λ (q : Queue). q.id < s.durable.next + 1) s.durable.queues one (λ k q within. omega (arith, valid.below k q within)) (omega arith);
+      readable = All-push (λ (q : Queue). IsReadable q.filter) s.durable.queues one valid.readable readable;
       held = All-push (λ (q : Queue). AreHeld s.durable.epoch s.running.drawn q.messages) s.durable.queues one valid.held
           (record { distinct = λ i j m before within. absurd (omega arith); were_drawn = λ k m within. absurd (omega arith) });
       consumers = valid.consumers;
@@ -104,6 +109,7 @@ valid_drop s dropped valid free = record {
   names = AllPairs-filter (λ (q other : Queue). q.name ≢ other.name) (λ q. not (q.id == dropped)) s.durable.queues valid.names;
   ids = AllPairs-filter (λ (q other : Queue). q.id ≢ other.id) (λ q. not (q.id == dropped)) s.durable.queues valid.ids;
   below = All-filter (λ (q : Queue). not (q.id == dropped)) (λ q. q.id < s.durable.next) s.durable.queues valid.below;
+  readable = All-filter (λ (q : Queue). not (q.id == dropped)) (λ q. IsReadable q.filter) s.durable.queues valid.readable;
   held = All-filter (λ (q : Queue). not (q.id == dropped)) (λ q. AreHeld s.durable.epoch s.running.drawn q.messages) s.durable.queues valid.held;
   consumers = valid.consumers;
   live = each_both (λ (c : Consumer). c.queue ≡ dropped → ⊥) (λ c. IsLive s.durable.queues c.queue) (λ c. IsLive (without_queue dropped s.durable.queues) c.queue) s.running.consumers
@@ -116,6 +122,12 @@ valid_drop s dropped valid free = record {
 }
 
 -- ---- messages
+-- filters are readable still, where no queue's filter is changed
+readable_mapped : (f : Queue → Queue) → ((q : Queue) → (f q).filter ≡ q.filter) → (queues : List Queue) → All (λ (q : Queue). IsReadable q.filter) queues → All (λ (q : Queue). IsReadable q.filter) (map f queues)
+readable_mapped f same queues readable =
+    All-map (λ (q : Queue). IsReadable q.filter) f queues
+    (All-weaker (λ (q : Queue). IsReadable q.filter) (λ q. IsReadable (f q).filter) (λ q is. subst IsReadable (sym (same q)) is) queues readable)
+
 live_mapped : (f : Queue → Queue) → ((q : Queue) → (f q).id ≡ q.id) → (queues : List Queue) (queue : ℕ) → IsLive queues queue → IsLive (map f queues) queue
 live_mapped f same queues queue is = record { one = f is.one; live = in_mapped f queues is.one is.live; is_queue = same is.one ∙ is.is_queue }
 
@@ -141,6 +153,7 @@ valid_given s numbers m new valid = record {
   ids = keys_kept (λ (q : Queue). q.id) (given_to numbers m) (given_id numbers m) s.durable.queues valid.ids;
   below = All-map (λ (q : Queue). q.id < s.durable.next) (given_to numbers m) s.durable.queues
       (All-weaker (λ (q : Queue). q.id < s.durable.next) (λ q. (given_to numbers m q).id < s.durable.next) (λ q below. omega (arith, below, given_id numbers m q)) s.durable.queues valid.below);
+  readable = readable_mapped (given_to numbers m) (given_filter numbers m) s.durable.queues valid.readable;
   held = All-map (λ (q : Queue). AreHeld s.durable.epoch (s.running.drawn + 1) q.messages) (given_to numbers m) s.durable.queues
       (All-weaker (λ (q : Queue). AreHeld s.durable.epoch s.running.drawn q.messages) (λ q. AreHeld s.durable.epoch (s.running.drawn + 1) (given_to numbers m q).messages) (λ q. held_given s numbers m q new) s.durable.queues valid.held);
   consumers = valid.consumers;
@@ -186,6 +199,7 @@ valid_ack s consumer c id named its valid =
       ids = keys_kept (λ (q : Queue). q.id) (relieved c.queue id) (relieved_id c.queue id) s.durable.queues valid.ids;
       below = All-map (λ (q : Queue). q.id < s.durable.next) (relieved c.queue id) s.durable.queues
           (All-weaker (λ (q : Queue). q.id < s.durable.next) (λ q. (relieved c.queue id q).id < s.durable.next) (λ q below. omega (arith, below, relieved_id c.queue id q)) s.durable.queues valid.below);
+      readable = readable_mapped (relieved c.queue id) (relieved_filter c.queue id) s.durable.queues valid.readable;
       held = All-map (λ (q : Queue). AreHeld s.durable.epoch s.running.drawn q.messages) (relieved c.queue id) s.durable.queues
           (All-weaker (λ (q : Queue). AreHeld s.durable.epoch s.running.drawn q.messages) (λ q. AreHeld s.durable.epoch s.running.drawn (relieved c.queue id q).messages) (λ q. held_relieved s.durable.epoch s.running.drawn c.queue id q) s.durable.queues valid.held);
       consumers = names_changed consumer (without_id id) s.running.consumers valid.consumers;
@@ -209,6 +223,7 @@ valid_open s name queue q valid new named =
       names = valid.names;
       ids = valid.ids;
       below = valid.below;
+      readable = valid.readable;
       held = valid.held;
       consumers = names_more (λ (c : Consumer). c.name) one s.running.consumers (not_found (λ (c : Consumer). bytes_eq name c.name) s.running.consumers new) valid.consumers;
       live = All-push (λ (c : Consumer). IsLive s.durable.queues c.queue) s.running.consumers one valid.live
@@ -224,6 +239,7 @@ valid_fewer s consumers valid names live part = record {
   names = valid.names;
   ids = valid.ids;
   below = valid.below;
+  readable = valid.readable;
   held = valid.held;
   consumers = names;
   live = live;
@@ -259,6 +275,7 @@ valid_get s consumer c q m named its gives valid =
       names = valid.names;
       ids = valid.ids;
       below = valid.below;
+      readable = valid.readable;
       held = valid.held;
       consumers = names_changed consumer (with_id m.id) s.running.consumers valid.consumers;
       live = live_changed s.durable.queues consumer (with_id m.id) s.running.consumers valid.live;
@@ -315,15 +332,15 @@ has_flight s consumer id not_none c named = told (cases_Bool (list_any (λ other
 
 valid_does : (view : View) (s t : Broker) (action : Action) (reply : Reply) → IsFirst (causes view s action) None → Does s action reply t → IsValid s → IsValid t
 valid_does view s t (MakeAddress name settings) reply first does valid = subst IsValid (sym does.1) (valid_address s name settings valid (goes_on first).0)
-valid_does view s t (MakeQueue name address) reply first does valid =
-    let at = matched (address_named s.durable.addresses address) (λ id. IsDone reply t (with_durable s (with_queue s.durable name id))) does in
-    subst IsValid (sym at.2.1) (valid_queue s name at.0 valid (goes_on first).0)
+valid_does view s t (MakeQueue name address filter) reply first does valid =
+    let made : QueueMade s t name address filter reply = queue_made s t name address filter reply does in
+    subst IsValid (sym made.is) (valid_queue s name made.at (text_of filter) (readable_text filter made.reading) valid (goes_on first).0)
 valid_does view s t (DropQueue name) reply first does valid =
     let at = matched (queue_named s.durable.queues name) (λ q. IsDone reply t (with_durable s (with_queues s.durable (without_queue q.id s.durable.queues)))) does in
     subst IsValid (sym at.2.1) (valid_drop s at.0.id valid (not_consumed s name at.0 at.1 (goes_on (goes_on first).1).0))
 valid_does view s t (Send address properties body) reply first does valid =
-    let at = matched (address_named s.durable.addresses address) (λ id. Sends s (routed s id) properties body reply t) does in
-    valid_send s t (routed s at.0) properties body reply at.2 valid
+    let sent : MessageSent s t address properties body reply = message_sent s t address properties body reply does in
+    valid_send s t sent.numbers properties body reply sent.sends valid
 valid_does view s t (Open name queue) reply first does valid =
     let at = matched (queue_named s.durable.queues queue) (λ q. IsDone reply t (with_consumers s (s.running.consumers ++ (record { name = name; queue = q.id; in_flight = [] } ∷ [])))) does in
     subst IsValid (sym at.2.1) (valid_open s name queue at.0 valid (goes_on first).0 at.1)
@@ -357,6 +374,7 @@ valid_opened d ids may = record {
   names = may.names;
   ids = may.ids;
   below = may.below;
+  readable = may.readable;
   held = λ k q within. record {
     distinct = may.distinct k q within;
     were_drawn = λ j m inside. inl (omega (arith, may.epochs k q within j m inside));
@@ -373,6 +391,7 @@ may_open_fresh = record {
   names = λ i j one before within. absurd (omega arith);
   ids = λ i j one before within. absurd (omega arith);
   below = λ k one within. absurd (omega arith);
+  readable = λ k one within. absurd (omega arith);
   distinct = λ k one within. absurd (omega arith);
   epochs = λ k one within. absurd (omega arith);
 }
@@ -383,6 +402,7 @@ may_open s valid = record {
   names = valid.names;
   ids = valid.ids;
   below = valid.below;
+  readable = valid.readable;
   distinct = λ k q within. (valid.held k q within).distinct;
   epochs = λ k q within j m inside. elim ((valid.held k q within).were_drawn j m inside) [ inl earlier ↦ omega arith | inr now ↦ omega (arith, now.0) ];
 }

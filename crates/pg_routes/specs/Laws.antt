@@ -1,14 +1,17 @@
 -- What the laws of the broker speak of: what a queue holds, what takes a message away, and which states come later.
-use Rattle.std.specs.Prelude.{◌≡◌, ◌≢◌, ◌≤◌, ◌<◌, ℕ, List, [], ◌∷◌, ◌++◌, All, AllPairs, Option, MatchOption}
+use Rattle.std.specs.Prelude.{◌≡◌, ◌≢◌, ◌⊎◌, ◌≤◌, ◌<◌, ℕ, List, [], ◌∷◌, ◌++◌, All, AllPairs, Option, Some, None, MatchOption}
 use Rattle.std.specs.List.{Contains}
 use Rattle.pg_msg.specs.declared.command.Command.{Command}
 use Rattle.pg_msg.specs.declared.message.Message.{Message}
 use Rattle.pg_msg.specs.declared.message.MessageId.{MessageId}
 use Rattle.pg_msg.specs.declared.reply.Reply.{Reply}
+use Rattle.pg_parse.specs.Filters.{IsBadAt}
+use Rattle.pg_parse.specs.FilterTexts.{IsReadable}
 use Rattle.pg_model.specs.Actions.{Action, MakeAddress, MakeQueue, DropQueue, Send, Open, Receive, Acknowledge, Cancel, Close, Count}
 use Rattle.pg_model.specs.Broker.{Queue, Durable, Broker, HoldsMessage, queue_named, consumer_named, opened_from}
 use Rattle.pg_model.specs.Refusals.{View}
-use Rattle.pg_model.specs.Steps.{StepSeen}
+use Rattle.pg_model.specs.Routing.{HasReading}
+use Rattle.pg_model.specs.Steps.{StepSeen, asked}
 
 -- A live queue of this id has the message in its list.
 pub record IsIn (queues : List Queue) (queue : ℕ) (m : Message) : Type 0 where
@@ -25,7 +28,7 @@ IsOut queues queue id = HoldsMessage queues queue id → ⊥
 -- consumer of the queue.
 abbrev pub TakesOut : Broker → Action → ℕ → MessageId → Type 0
 TakesOut s (MakeAddress name settings) queue id = ⊥
-TakesOut s (MakeQueue name address) queue id = ⊥
+TakesOut s (MakeQueue name address filter) queue id = ⊥
 TakesOut s (DropQueue name) queue id = MatchOption (queue_named s.durable.queues name) ⊥ (λ q. q.id ≡ queue)
 TakesOut s (Send address properties body) queue id = ⊥
 TakesOut s (Open name on) queue id = ⊥
@@ -36,13 +39,29 @@ TakesOut s (Cancel consumer message) queue id = ⊥
 TakesOut s (Close consumer) queue id = ⊥
 TakesOut s (Count on) queue id = ⊥
 
+-- There is no filter, or its text has a reading, or it is bad at some offset. No text is both, and `parse` tells of each
+-- which it is; a law has no code that would, so one that needs to know asks for it.
+abbrev pub IsDecidedFilter : Option (List ℕ) → Type 0
+IsDecidedFilter None = Unit {0}
+IsDecidedFilter (Some text) = HasReading (Some text) ⊎ ((at : ℕ) × IsBadAt text at)
+
+-- Of a queue that is to be made it is known whether its filter has a reading. Of all other actions nothing is asked.
+abbrev pub IsDecided : Action → Type 0
+IsDecided (MakeQueue name address filter) = IsDecidedFilter filter
+IsDecided _ = Unit {0}
+
+-- and so of the action that a line asks for, if there is one
+abbrev pub IsDecidedLine : Option Command → Type 0
+IsDecidedLine item = (action : Action) → asked item ≡ Some action → IsDecided action
+
 -- What a durable part must be so that what is opened from it is valid: names and ids of queues are as in a valid state,
--- a queue holds each message once, and none is of a later epoch.
+-- filters are readable, a queue holds each message once, and none is of a later epoch.
 pub record MayOpen (d : Durable) : Type 0 where
   pub addresses : AllPairs (λ a other. a.name ≢ other.name) d.addresses
   pub names : AllPairs (λ q other. q.name ≢ other.name) d.queues
   pub ids : AllPairs (λ q other. q.id ≢ other.id) d.queues
   pub below : All (λ q. q.id < d.next) d.queues
+  pub readable : All (λ q. IsReadable q.filter) d.queues
   pub distinct : All (λ q. AllPairs (λ m other. m.id ≢ other.id) q.messages) d.queues
   pub epochs : All (λ q. All (λ m. m.id.epoch ≤ d.epoch) q.messages) d.queues
 

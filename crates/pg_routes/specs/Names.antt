@@ -1,21 +1,25 @@
 -- The addresses and the live queues as two lists, and what the calls make of them.
-use Rattle.std.specs.Prelude.{◌==◌, ℕ, Bool, not, nat_lt, List, ◌∷◌, ◌++◌, map, filter, find, Option}
+use Rattle.std.specs.Prelude.{◌==◌, ◌&&◌, ℕ, Bool, not, nat_lt, List, ◌∷◌, ◌++◌, map, filter, find, Option}
 use Rattle.std.specs.List.{list_any}
 use Rattle.std.specs.List.Sorted.{IsStrictlySortedBy}
 use Rattle.std.specs.Option.{option_map}
 use Rattle.std.specs.Ordering.{nat_cmp}
 use Rattle.std.specs.Str.{bytes_eq}
+use Rattle.pg_msg.specs.declared.properties.Property.{Property}
+use Rattle.pg_parse.specs.declared.tree.Tree.{Tree}
+use Rattle.pg_eval.specs.Truth.{is_match}
 
 -- an address: its id and its name
 pub record AddressName : Type 0 where
   pub id : ℕ
   pub name : List ℕ
 
--- a live queue: its id, the id of its address, and its name
+-- a live queue: its id, the id of its address, its name, and its filter, if it has one
 pub record QueueName : Type 0 where
   pub id : ℕ
   pub address : ℕ
   pub name : List ℕ
+  pub filter : Option Tree
 
 -- the addresses and the live queues, each ascending by id
 pub record RouteNames : Type 0 where
@@ -47,6 +51,13 @@ ids_naming address queues = map (λ queue. queue.id) (filter (λ queue. queue.ad
 -- the ids of the live queues of the address
 abbrev pub queue_ids_at : ℕ → RouteNames → List ℕ
 queue_ids_at address routes = ids_naming address routes.queues
+
+-- The ids of the queues that a message with these properties goes to: of the live queues of the address, those whose
+-- filter is true of them, and those that have none.
+abbrev pub routed_at : ℕ → List Property → RouteNames → List ℕ
+routed_at address properties routes =
+    map (λ queue. queue.id)
+    (filter (λ queue. (queue.address == address) && is_match properties queue.filter) routes.queues)
 
 -- one address more, behind those with smaller ids and before those with greater ones
 abbrev pub with_address : AddressName → RouteNames → RouteNames

@@ -14,7 +14,7 @@ ghost use Rattle.pg_model.specs.Actions.{Action};
 ghost use Rattle.pg_model.specs.Broker.{Broker, Durable, Queue, HoldsMessage, IsDrawn, IsLive, IsValid, fresh, opened_from};
 ghost use Rattle.pg_model.specs.Refusals.{View};
 ghost use Rattle.pg_model.specs.Steps.{Acts, Run, Step, Takes, asked};
-ghost use Rattle.pg_routes.specs.Laws.{GoesOn, IsIn, IsLater, IsOut, MayOpen, TakesOut, any_view};
+ghost use Rattle.pg_routes.specs.Laws.{GoesOn, IsDecided, IsDecidedLine, IsIn, IsLater, IsOut, MayOpen, TakesOut, any_view};
 
 /// Ids that are drawn in ascending order are appended: what has a greater id than all others goes behind them. This
 /// law has no code.
@@ -105,12 +105,12 @@ pub fn determined()
         → Step view s item reply t → Step view s item other u → (reply ≡ other) × (t ≡ u) }
 {}
 
-/// From a valid state each action and each line has a step, under whatever view: a reply and a state that it leads to.
-/// This law has no code.
+/// From a valid state each action and each line has a step, under whatever view: a reply and a state that it leads to. Of
+/// a filter the law asks to be told whether it has a reading, as `parse` tells of each text. This law has no code.
 pub fn each_leads_on()
-    ensures acts { (view : View) (s : Broker) (action : Action) → IsValid s
+    ensures acts { (view : View) (s : Broker) (action : Action) → IsValid s → IsDecided action
         → (reply : Reply) × (t : Broker) × Acts view s action reply t }
-    ensures step { (view : View) (s : Broker) (item : Option Command) → IsValid s
+    ensures step { (view : View) (s : Broker) (item : Option Command) → IsValid s → IsDecidedLine item
         → (reply : Reply) × (t : Broker) × Step view s item reply t }
 {}
 

@@ -4,6 +4,7 @@
 mod laws;
 mod lists;
 mod routes;
+mod routing;
 
 pub use laws::{
     determined, each_leads_on, found_by_name, in_order, leaves, left, opened_valid, refused,

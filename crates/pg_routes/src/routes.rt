@@ -1,20 +1,24 @@
 // The routes.
-ghost use Rattle.std.specs.Prelude.{◌≡◌, [], false, None, OnOk, OnErr};
+ghost use Rattle.std.specs.Prelude.{◌≡◌, [], false, None, IfOk, OnOk, OnErr};
 ghost use Rattle.std.specs.List.Sorted.{IsStrictlySortedBy};
 ghost use Rattle.std.specs.Ordering.{nat_cmp};
-ghost use Rattle.pg_routes.specs.Names.{AreAscending, address_named, has_address, has_queue, queue_ids_at, queue_named, with_address, with_queue, without_queue};
+ghost use Rattle.pg_routes.specs.Names.{AreAscending, address_named, has_address, has_queue, queue_ids_at, queue_named, routed_at, with_address, with_queue, without_queue};
 
 use crate::lists::{begin_list, put_in, take_out};
+use crate::routing::takers;
 use indexmap::IndexMap;
 use pg_bytes::Text;
+use pg_msg::Property;
+use pg_parse::Tree;
 use std::alloc::{AllocError, Global};
 use std::collections::BTreeMap;
 use std::marker::Model;
 
-// A live queue: the id of its address, and its name.
+// A live queue: the id of its address, its name, and its filter, if it has one.
 pub(crate) struct QueueEntry {
     pub(crate) address: u32,
     pub(crate) name: Text,
+    pub(crate) filter: Option<Tree>,
 }
 
 impl Drop for QueueEntry {
@@ -22,6 +26,7 @@ impl Drop for QueueEntry {
         let QueueEntry {
             address: _address,
             name: _name,
+            filter: _filter,
         } = self;
     }
 }
@@ -45,9 +50,14 @@ pub struct Routes {
 }
 
 impl Model for Routes {
+    ghost use Rattle.std.specs.Coded.{codes};
+    ghost use Rattle.pg_parse.specs.contracts.tree.Tree as tree;
     ghost use Rattle.pg_routes.specs.Names.{RouteNames};
 
     ghost Value = { RouteNames };
+
+    // A tree holds itself, so its code is named.
+    ghost coded = { Prim.hlevel (codes, tree.the_row.coded) };
 
     ghost use Rattle.pg_routes.specs.Kept.{AreKept, seen};
 
@@ -134,6 +144,20 @@ impl Routes {
         }
     }
 
+    /// The ids of the queues that a message with these properties goes to: of the live queues of that address, those
+    /// whose filter is true of them, and those that have none. One filter is evaluated for each queue of the address.
+    pub fn route(
+        &self,
+        alloc: Global,
+        address: u32,
+        properties: &[Property],
+    ) -> Result<Vec<u32>, AllocError>
+        ensures ids { IfOk result (λ ids. ids.items ≡ routed_at address properties.now self.now) }
+        ensures ascending { IfOk result (λ ids. IsStrictlySortedBy nat_cmp ids.items) }
+    {
+        takers(alloc, &self.queues, self.queues_at(address), properties)
+    }
+
     /// Adds an address. Fails only where there is no memory for it, and then nothing has changed.
     pub fn add_address(&mut self, alloc: Global, id: u32, name: Text) -> Result<(), AllocError>
         requires new_id { has_address id self.old ≡ false }
@@ -147,26 +171,34 @@ impl Routes {
         Ok(())
     }
 
-    /// Adds a queue of the address with that id. Fails only where there is no memory for it, and then nothing has
-    /// changed.
+    /// Adds a queue of the address with that id, with that filter, if there is one. Fails only where there is no memory
+    /// for it, and then nothing has changed.
     pub fn add_queue(
         &mut self,
         alloc: Global,
         id: u32,
         address: u32,
         name: Text,
+        filter: Option<Tree>,
     ) -> Result<(), AllocError>
         requires new_id { has_queue id self.old ≡ false }
         requires new_name { queue_named name self.old ≡ None }
-        ensures ok { OnOk result
-            (self.new ≡ with_queue (record { id = id; address = address; name = name }) self.old) }
+        ensures ok { OnOk result (self.new
+            ≡ with_queue (record { id = id; address = address; name = name; filter = filter }) self.old) }
         ensures err { OnErr result (self.new ≡ self.old) }
     {
         let key = String::from_str(alloc, name.as_str())?;
         self.queue_ids.insert(key, id)?;
         begin_list(&mut self.lists, alloc, address)?;
         put_in(&mut self.lists, address, id)?;
-        match self.queues.insert(id, QueueEntry { address, name }) {
+        match self.queues.insert(
+            id,
+            QueueEntry {
+                address,
+                name,
+                filter,
+            },
+        ) {
             Ok(_) => Ok(()),
             Err(_) => {
                 take_out(&mut self.lists, address, id);

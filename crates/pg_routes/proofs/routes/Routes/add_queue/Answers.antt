@@ -49,7 +49,7 @@ invariant_of-self-in-Ok c =
     let ahead = kept_queue_told inside.addresses inside.queues inside.address_ids inside.queue_ids c.insert.new.self inside.lists c.begin_list.new.lists c.in_ok-key.key c.args.name c.args.id c.self.invariant none is
     c.in_ok-insert.ensures.updates c.begin_list.ensures.same in
     kept_queue inside.addresses inside.queues c.insert-2.new.self inside.address_ids c.insert.new.self c.begin_list.new.lists c.put_in.new.lists
-    (record { address = c.args.address; name = c.args.name }) c.args.id ahead new
+    (record { address = c.args.address; name = c.args.name; filter = c.args.filter }) c.args.id ahead new
     (name_told inside.queue_ids c.insert.new.self c.in_ok-key.key c.args.name c.args.id is c.in_ok-insert.ensures.updates) c.in-Ok.ensures.updates c.in-Ok.ensures.ordered c.in-Ok.ensures.entries c.in_ok-put_in.ensures.ok
 
 pub invariant_of-self-in-Err : goal.invariant_of-self-in-Err
@@ -69,5 +69,5 @@ returns-in-Ok-clause-ok c =
     let new : has_queue c.args.id (seen inside.addresses inside.queues) ≡ false = ap (has_queue c.args.id) c.self.view_is ∙ c.requires.new_id in
     ap (λ (queues : List QueueName). record (seen inside.addresses inside.queues) { queues = queues })
     (ap (map queue_of) c.in-Ok.ensures.entries
-    ∙ queue_placed c.args.id (record { address = c.args.address; name = c.args.name }) inside.queues.entries c.self.invariant.queues_ordered (queue_absent c.args.id inside.queues.entries new))
-    ∙ ap (with_queue (record { id = c.args.id; address = c.args.address; name = c.args.name })) c.self.view_is
+    ∙ queue_placed c.args.id (record { address = c.args.address; name = c.args.name; filter = c.args.filter }) inside.queues.entries c.self.invariant.queues_ordered (queue_absent c.args.id inside.queues.entries new))
+    ∙ ap (with_queue (record { id = c.args.id; address = c.args.address; name = c.args.name; filter = c.args.filter })) c.self.view_is
