@@ -155,7 +155,7 @@ module _ (queue : ℕ) (id : MessageId) where
 
   -- so each queue is relieved
   abbrev has : QueueRow → List Message → Queue
-  has row messages = record { id = row.id; name = row.name; address = row.address; messages = messages }
+  has row messages = record { id = row.id; name = row.name; address = row.address; filter = row.filter; messages = messages }
 
   one_relieved : (rows : List JournaledRow) (row : QueueRow) → Apart rows → queue_of (acknowledged queue id rows) row ≡ relieved queue id (queue_of rows row)
   one_relieved rows row differ = elim (cases_Bool (eqb row.id queue)) [

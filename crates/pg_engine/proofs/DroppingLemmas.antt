@@ -86,7 +86,7 @@ module _ (queue : ℕ) where
           ∙ others ∙ sym (ap (λ (c : Bool). cond (not c) (queue_of rows row ∷ without_broker_queue queue (map (queue_of rows) queues)) (without_broker_queue queue (map (queue_of rows) queues))) is)
       by false is others =
           ap (λ (c : Bool). map (queue_of (dropped queue rows)) (cond (not c) (row ∷ filter (λ (r : QueueRow). not (eqb r.id queue)) queues) (filter (λ (r : QueueRow). not (eqb r.id queue)) queues))) is
-          ∙ ap₂ (λ (q : Queue) (qs : List Queue). q ∷ qs) (ap (λ (messages : List Message). record { id = row.id; name = row.name; address = row.address; messages = messages }) (still_held row.id rows (λ same. eqb-false row.id queue is (sym same)))) others
+          ∙ ap₂ (λ (q : Queue) (qs : List Queue). q ∷ qs) (ap (λ (messages : List Message). record { id = row.id; name = row.name; address = row.address; filter = row.filter; messages = messages }) (still_held row.id rows (λ same. eqb-false row.id queue is (sym same)))) others
           ∙ sym (ap (λ (c : Bool). cond (not c) (queue_of rows row ∷ without_broker_queue queue (map (queue_of rows) queues)) (without_broker_queue queue (map (queue_of rows) queues))) is)
 
   pub dropped_part : (d : Durable) → durable_part (changed d (entry.DropQueue queue)) ≡ with_queues (durable_part d) (without_broker_queue queue (durable_part d).queues)

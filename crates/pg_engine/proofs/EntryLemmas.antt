@@ -5,10 +5,10 @@ use Rattle.std.specs.Str.{bytes_eq}
 use Rattle.std.proofs.lemmas.Bool.{cases_eq, and_from, and_left, and_right, or_from, or_left, or_right, lt-ltb, le-leb, cond-true}
 use Rattle.std.proofs.lemmas.List.Elements.{recursion_from_All}
 use Rattle.std.proofs.lemmas.List.Sums.{sum_by-cons}
-use Rattle.std.proofs.lemmas.Str.{IsUtf8-nil}
 use Rattle.pg_msg.specs.declared.message.Message.{Message}
 use Rattle.pg_msg.specs.declared.message.MessageId.{MessageId}
-use Rattle.pg_msg.specs.Commands.{AreSettings}
+use Rattle.pg_msg.specs.declared.properties.Property.{Property}
+use Rattle.pg_msg.specs.Commands.{AreSettings, IsFilterText}
 use Rattle.pg_msg.specs.Lists.{AreQueues, Ascends, IsBelowFirst}
 use Rattle.pg_msg.specs.Messages.{IsMessage}
 use Rattle.pg_msg.specs.Names.{IsName}
@@ -23,61 +23,94 @@ use Rattle.pg_fold.specs.Rows.{has_address, has_address_named, has_holder, has_q
 use Rattle.pg_fold.specs.Sound.{IsHeldRow, IsSound}
 use Rattle.pg_model.specs.Broker.{IsDrawn}
 use Rattle.pg_model.specs.Broker.{Queue, address_named, queue_named}
+use Rattle.pg_model.specs.Routing.{GoesTo, queues_of, with_taker}
 use Rattle.pg_recover.specs.Denotation.{address_of, queue_of}
-use Rattle.pg_engine.proofs.LookupLemmas.{address_new, queue_new, found_any, ids_at, queue_row, row_of}
+use Rattle.pg_engine.proofs.LookupLemmas.{address_new, queue_new, found_any, queue_row, row_of}
 use Rattle.pg_engine.proofs.PartLemmas.{CountFrom, counted, placed, Ascend, ascend}
 
-module _ (address : ℕ) where
-  abbrev numbers : List QueueRow → List ℕ
-  numbers queues = ids_at address queues
+module _ (address : ℕ) (messages : List JournaledRow) where
+  -- the queues of the address among these
+  abbrev pub held_at : List QueueRow → List Queue
+  held_at queues = queues_of address (map (queue_of messages) queues)
 
-  pub counted_at : (queues : List QueueRow) → queues_at queues address ≡ length (numbers queues)
+  pub counted_at : (queues : List QueueRow) → queues_at queues address ≡ length (held_at queues)
   counted_at [] = refl
   counted_at (row ∷ queues) =
       sum_by-cons (λ (r : QueueRow). cond (eqb r.address address) 1 0) row queues ∙ ap (λ (n : ℕ). cond (eqb row.address address) 1 0 + n) (counted_at queues) ∙ by (eqb row.address address)
     where
-      by : (b : Bool) → cond b 1 0 + length (numbers queues) ≡ length (cond b (row.id ∷ numbers queues) (numbers queues))
+      by : (b : Bool) → cond b 1 0 + length (held_at queues) ≡ length (cond b (queue_of messages row ∷ held_at queues) (held_at queues))
       by true = omega arith
       by false = omega arith
 
-  -- each of the numbers is that of a live queue of the address
-  each_live : (every queues : List QueueRow) → ((id : ℕ) → has_queue_at queues address id ≡ true → has_queue_at every address id ≡ true) → list_all (has_queue_at every address) (numbers queues) ≡ true
-  each_live every [] within = refl
-  each_live every (row ∷ queues) within = by (each_live every queues (λ id there. within id (or_right _ _ there))) (eqb row.address address) refl
-    where
-      by : list_all (has_queue_at every address) (numbers queues) ≡ true → (b : Bool) → eqb row.address address ≡ b → list_all (has_queue_at every address) (cond b (row.id ∷ numbers queues) (numbers queues)) ≡ true
-      by others true is = and_from _ _ (within row.id (or_left _ _ (and_from _ _ (eq-eqb row.id row.id refl) is))) others
-      by others false is = others
+  module _ (properties : List Property) where
+    -- a message goes to these of the queues
+    abbrev Goes : List QueueRow → List ℕ → Type 0
+    Goes queues numbers = GoesTo properties (held_at queues) numbers
 
-  pub all_live : (queues : List QueueRow) → list_all (has_queue_at queues address) (numbers queues) ≡ true
-  all_live queues = each_live queues queues (λ id there. there)
+    -- What is so without a queue and with one more, and of what a message goes to behind a queue, is so of what it goes to.
+    over_rows : (P : List QueueRow → List ℕ → Type 0) → P [] []
+        → ((row : QueueRow) (queues : List QueueRow) (numbers : List ℕ) → P queues numbers → P (row ∷ queues) numbers)
+        → ((row : QueueRow) (queues : List QueueRow) (numbers : List ℕ) → eqb row.address address ≡ true → P queues numbers → P (row ∷ queues) (row.id ∷ numbers))
+        → (queues : List QueueRow) (numbers : List ℕ) → Goes queues numbers → P queues numbers
+    over_rows P none past taken [] numbers goes = subst (λ (l : List ℕ). P [] l) (sym goes) none
+    over_rows P none past taken (row ∷ queues) numbers goes = by (over_rows P none past taken queues) (eqb row.address address) refl goes
+      where
+        at : (takes : Bool) (others : List ℕ) → eqb row.address address ≡ true → P queues others → P (row ∷ queues) (with_taker takes row.id others)
+        at true others is before = taken row queues others is before
+        at false others is before = past row queues others before
 
-  below_first : (id : ℕ) (queues : List QueueRow) → AllByRecursion (λ row. id < row.id) queues → IsBelowFirst id (numbers queues)
-  below_first id [] above = tt
-  below_first id (row ∷ queues) above = by (below_first id queues above.1) (eqb row.address address)
-    where
-      by : IsBelowFirst id (numbers queues) → (b : Bool) → IsBelowFirst id (cond b (row.id ∷ numbers queues) (numbers queues))
-      by others true = above.0
-      by others false = others
+        by : ((others : List ℕ) → Goes queues others → P queues others) → (b : Bool) → eqb row.address address ≡ b → GoesTo properties (cond b (queue_of messages row ∷ held_at queues) (held_at queues)) numbers → P (row ∷ queues) numbers
+        by rest true is goes = subst (λ (l : List ℕ). P (row ∷ queues) l) (sym goes.4) (at goes.0 goes.1 is (rest goes.1 goes.3))
+        by rest false is goes = past row queues numbers (rest numbers goes)
 
-  pub numbers_ascend : (queues : List QueueRow) → Ascend queues → Ascends (numbers queues)
-  numbers_ascend [] ascending = tt
-  numbers_ascend (row ∷ queues) ascending = by (numbers_ascend queues ascending.1) (eqb row.address address)
-    where
-      by : Ascends (numbers queues) → (b : Bool) → Ascends (cond b (row.id ∷ numbers queues) (numbers queues))
-      by others true = (below_first row.id queues (recursion_from_All (λ other. row.id < other.id) queues ascending.0), others)
-      by others false = others
+    -- each of the numbers is that of a live queue of the address
+    abbrev AreLive : List QueueRow → List ℕ → Type 0
+    AreLive queues numbers = (every : List QueueRow) → ((id : ℕ) → has_queue_at queues address id ≡ true → has_queue_at every address id ≡ true) → list_all (has_queue_at every address) numbers ≡ true
+
+    each_live : (queues : List QueueRow) (numbers : List ℕ) → Goes queues numbers → AreLive queues numbers
+    each_live = over_rows AreLive (λ every within. refl) (λ row queues numbers before every within. before every (λ id there. within id (or_right _ _ there)))
+        (λ row queues numbers is before every within. and_from _ _ (within row.id (or_left _ _ (and_from _ _ (eq-eqb row.id row.id refl) is))) (before every (λ id there. within id (or_right _ _ there))))
+
+    pub all_live : (queues : List QueueRow) (numbers : List ℕ) → Goes queues numbers → list_all (has_queue_at queues address) numbers ≡ true
+    all_live queues numbers goes = each_live queues numbers goes queues (λ id there. there)
+
+    -- what is below each queue is below the first number
+    abbrev AreBelow : List QueueRow → List ℕ → Type 0
+    AreBelow queues numbers = (id : ℕ) → AllByRecursion (λ row. id < row.id) queues → IsBelowFirst id numbers
+
+    below_first : (queues : List QueueRow) (numbers : List ℕ) → Goes queues numbers → AreBelow queues numbers
+    below_first = over_rows AreBelow (λ id above. tt) (λ row queues numbers before id above. before id above.1) (λ row queues numbers is before id above. above.0)
+
+    pub numbers_ascend : (queues : List QueueRow) (numbers : List ℕ) → Ascend queues → Goes queues numbers → Ascends numbers
+    numbers_ascend [] numbers ascending goes = subst Ascends (sym goes) tt
+    numbers_ascend (row ∷ queues) numbers ascending goes = by (λ others. numbers_ascend queues others ascending.1) (eqb row.address address) goes
+      where
+        at : ((others : List ℕ) → Goes queues others → Ascends others) → (takes : Bool) (others : List ℕ) → Goes queues others → Ascends (with_taker takes row.id others)
+        at rest true others goes = (below_first queues others goes row.id (recursion_from_All (λ other. row.id < other.id) queues ascending.0), rest others goes)
+        at rest false others goes = rest others goes
+
+        by : ((others : List ℕ) → Goes queues others → Ascends others) → (b : Bool) → GoesTo properties (cond b (queue_of messages row ∷ held_at queues) (held_at queues)) numbers → Ascends numbers
+        by rest true goes = subst Ascends (sym goes.4) (at rest goes.0 goes.1 goes.3)
+        by rest false goes = rest numbers goes
+
+    pub few_numbers : (queues : List Queue) (numbers : List ℕ) → GoesTo properties queues numbers → length numbers ≤ length queues
+    few_numbers [] numbers goes = omega (arith, ap length goes)
+    few_numbers (q ∷ queues) numbers goes = by goes.0 (few_numbers queues goes.1 goes.3) (ap length goes.4)
+      where
+        by : (takes : Bool) → length goes.1 ≤ length queues → length numbers ≡ length (with_taker takes q.id goes.1) → length numbers ≤ length (q ∷ queues)
+        by true few is = omega (arith, few, is)
+        by false few is = omega (arith, few, is)
 
 some_number : (numbers : List ℕ) → numbers ≢ [] → 1 ≤ length numbers
 some_number [] some = absurd (some refl)
 some_number (n ∷ numbers) some = omega arith
 
--- the numbers of the queues of an address are as an entry lists them
-pub are_queues : (d : Durable) (address : ℕ) (numbers : List ℕ) → IsSound d → numbers ≡ ids_at address d.queues → All (λ n. n < 2 ^ 32) numbers → numbers ≢ [] → AreQueues numbers
-are_queues d address numbers sound same in_range some = record {
-  count = (some_number numbers some, let few = sound.queues.few address in omega (arith, few, counted_at address d.queues, ap length same));
+-- the numbers of the queues that a message goes to are as an entry lists them
+pub are_queues : (d : Durable) (address : ℕ) (properties : List Property) (numbers : List ℕ) → IsSound d → GoesTo properties (held_at address d.journaled d.queues) numbers → All (λ n. n < 2 ^ 32) numbers → numbers ≢ [] → AreQueues numbers
+are_queues d address properties numbers sound goes in_range some = record {
+  count = (some_number numbers some, let few = sound.queues.few address in let fewer = few_numbers address d.journaled properties (held_at address d.journaled d.queues) numbers goes in omega (arith, few, fewer, counted_at address d.journaled d.queues));
   each = in_range;
-  ascending = subst Ascends (sym same) (numbers_ascend address d.queues (ascend d.queues sound.queues.ascending));
+  ascending = numbers_ascend address d.journaled properties d.queues numbers (ascend d.queues sound.queues.ascending) goes;
 }
 
 known_from : (base id : ℕ) (rows : List AddressRow) → CountFrom base rows → base < id → id ≤ base + length rows → has_address rows id ≡ true
@@ -134,19 +167,20 @@ address_fields d name max page ahead dup few spelled fits =
     (omega (arith, few), spelled, omega arith, omega arith, omega arith, omega arith)
 
 -- the entry of a queue whose name is new, at an address that has room for it
-pub queue_condition : (d : Durable) (address : ℕ) (name : List ℕ) → IsSound d → queue_named (map (queue_of d.journaled) d.queues) name ≡ None → 1 ≤ address → address ≤ length d.addresses → length (ids_at address d.queues) < 1000
-    → d.next < 4294967295 → rule_of d (entry.Queue d.next address name []) ≡ None
-queue_condition d address name sound new low high room number =
+pub queue_condition : (d : Durable) (address : ℕ) (name filter : List ℕ) → IsSound d → queue_named (map (queue_of d.journaled) d.queues) name ≡ None → 1 ≤ address → address ≤ length d.addresses
+    → length (held_at address d.journaled d.queues) < 1000 → d.next < 4294967295 → length filter ≤ 4096 → rule_of d (entry.Queue d.next address name filter) ≡ None
+queue_condition d address name filter sound new low high room number short =
     let first : (eqb d.next d.next && (ltb d.next 4294967295 && not (has_queue_named d.queues name))) ≡ true =
     and_from _ _ (eq-eqb d.next d.next refl) (and_from _ _ (lt-ltb d.next 4294967295 number) (ap not (queue_new name d.journaled d.queues new))) in
-    let second : (has_address d.addresses address && (ltb (queues_at d.queues address) 1000 && eqb 0 0)) ≡ true =
-    and_from _ _ (known d address sound low high) (and_from _ _ (lt-ltb (queues_at d.queues address) 1000 (omega (arith, room, counted_at address d.queues))) refl) in
+    let second : (has_address d.addresses address && (ltb (queues_at d.queues address) 1000 && leb (length filter) 4096)) ≡ true =
+    and_from _ _ (known d address sound low high)
+    (and_from _ _ (lt-ltb (queues_at d.queues address) 1000 (omega (arith, room, counted_at address d.journaled d.queues))) (le-leb (length filter) 4096 short)) in
     cond-true _ _ _ first ∙ cond-true _ _ _ second
 
-pub queue_fields : (d : Durable) (address : ℕ) (name : List ℕ) → IsSound d → address ≤ length d.addresses → d.next < 4294967295 → IsName name → HasFields (entry.Queue d.next address name [])
-queue_fields d address name sound high number spelled =
+pub queue_fields : (d : Durable) (address : ℕ) (name filter : List ℕ) → IsSound d → address ≤ length d.addresses → d.next < 4294967295 → IsName name → IsFilterText filter → HasFields (entry.Queue d.next address name filter)
+queue_fields d address name filter sound high number spelled text =
     let few = sound.addresses.few in
-    (omega (arith, number), omega (arith, high), spelled, (IsUtf8-nil, omega arith))
+    (omega (arith, number), omega (arith, high), spelled, (text.0, let short = text.1 in omega (arith, short)))
 
 -- the entry that drops a queue that was found
 pub drop_condition : (d : Durable) (name : List ℕ) (queue : ℕ) → option_map (λ (q : Queue). q.id) (queue_named (map (queue_of d.journaled) d.queues) name) ≡ Some queue → rule_of d (entry.DropQueue queue) ≡ None
@@ -154,19 +188,19 @@ drop_condition d name queue found =
     let row = queue_row name d.journaled d.queues queue found in
     cond-true _ _ _ (found_any (λ (r : QueueRow). bytes_eq name r.name) (λ (r : QueueRow). eqb r.id queue) d.queues row.0 row.3 (eq-eqb row.0.id queue row.1))
 
--- the entry of a message with the next id, for the queues of the address
-module _ (d : Durable) (address drawn : ℕ) (numbers : List ℕ) (m : Message) (sound : IsSound d) (same : numbers ≡ ids_at address d.queues) (is : m.id ≡ record { epoch = d.epoch; number = drawn + 1 }) where
+-- the entry of a message with the next id, for the queues that it goes to
+module _ (d : Durable) (address drawn : ℕ) (properties : List Property) (numbers : List ℕ) (m : Message) (sound : IsSound d) (goes : GoesTo properties (held_at address d.journaled d.queues) numbers) (is : m.id ≡ record { epoch = d.epoch; number = drawn + 1 }) where
   pub add_condition : All (λ row. IsDrawn d.epoch drawn row.message.id) d.journaled → 1 ≤ address → address ≤ length d.addresses → rule_of d (entry.Add address numbers m) ≡ None
   add_condition drawn_all low high =
       let first : (has_address d.addresses address && (list_all (has_queue_at d.queues address) numbers && leb m.id.epoch d.epoch)) ≡ true =
       and_from _ _ (known d address sound low high)
-      (and_from _ _ (ap (list_all (has_queue_at d.queues address)) same ∙ all_live address d.queues) (le-leb m.id.epoch d.epoch (le_of_eq (ap (λ (x : MessageId). x.epoch) is)))) in
+      (and_from _ _ (all_live address d.journaled properties d.queues numbers goes) (le-leb m.id.epoch d.epoch (le_of_eq (ap (λ (x : MessageId). x.epoch) is)))) in
       let second : not (has_message d.journaled m.id) ≡ true =
       ap (λ (x : MessageId). not (has_message d.journaled x)) is ∙ ap not (new_id d.epoch drawn d.journaled (recursion_from_All (λ row. IsDrawn d.epoch drawn row.message.id) d.journaled drawn_all)) in
       cond-true _ _ _ first ∙ cond-true _ _ _ second
 
   pub add_fields : IsMessage m → All (λ n. n < 2 ^ 32) numbers → numbers ≢ [] → address ≤ length d.addresses → HasFields (entry.Add address numbers m)
-  add_fields fields in_range some high = let few = sound.addresses.few in (omega (arith, high), are_queues d address numbers sound same in_range some, fields)
+  add_fields fields in_range some high = let few = sound.addresses.few in (omega (arith, high), are_queues d address properties numbers sound goes in_range some, fields)
 
 -- the entry that takes a message from a queue that holds it
 pub ack_condition : (d : Durable) (queue : ℕ) (id : MessageId) → has_holder d.journaled id queue ≡ true → rule_of d (entry.Ack queue id) ≡ None

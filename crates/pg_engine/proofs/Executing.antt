@@ -17,19 +17,16 @@ use Rattle.pg_disk.proofs.Composing.{changes_none, changes_weaker}
 use Rattle.pg_disk.proofs.MeaningLemmas.{quiet_from, quiet_is_deciding, quiet_none}
 use Rattle.pg_gate.specs.Gated.{Anyhow}
 use Rattle.pg_msg.specs.declared.command.Command.{Command}
-use Rattle.pg_msg.specs.declared.reply.Refusal.{Refusal}
 use Rattle.pg_msg.specs.declared.reply.Reply.{Reply}
 use Rattle.pg_msg.specs.declared.reply.Refusal.TheVariants.{Line}
 use Rattle.pg_msg.specs.declared.reply.Reply.TheVariants.{No}
 use Rattle.pg_model.specs.Actions.{Action}
-use Rattle.pg_model.specs.Refusals.{causes}
 use Rattle.pg_model.specs.Steps.{Step, asked}
-use Rattle.pg_model.proofs.CauseLaws.{one_first}
 use Rattle.pg_records.specs.declared.entry.Entry.{Entry}
 use Rattle.pg_records.specs.Entries.{batch_bytes, HasFields, SpellsBatch, SpellBatches}
 use Rattle.pg_fold.specs.declared.durable.Durable.{Durable as Folded}
-use Rattle.pg_fold.specs.Fold.{fold, fresh}
-use Rattle.pg_fold.proofs.FoldLaws.{fold_applied}
+use Rattle.pg_fold.specs.Fold.{Folds, fresh}
+use Rattle.pg_fold.proofs.FoldLaws.{folds_applied}
 use Rattle.pg_fold.proofs.SoundLaws.{sound_folded}
 use Rattle.pg_journal.specs.declared.journal.Journal.{Journal}
 use Rattle.pg_journal.specs.Generations.{JournalOf}
@@ -51,7 +48,8 @@ use Rattle.pg_engine.specs.declared.state.Outcome.{Outcome}
 use Rattle.pg_engine.specs.declared.state.Outcome.TheVariants.{Changed, Unchanged}
 use Rattle.pg_engine.specs.Executed.{state_of, seen_by, IsBounded, Owns, OwnsPages, Keeps, Executes, MeetsLimit, WritesFor}
 use Rattle.pg_engine.specs.Kept.{Kept, broker_of, view_of}
-use Rattle.pg_engine.specs.Outcomes.{Adds, IsAccepted, IsAsBefore, IsNoOutcome, IsOutcome, MeetsNoQueueId, Records, RecordsAsked, WantsQueueId, entries_of, unless_refused}
+use Rattle.pg_engine.specs.Outcomes.{Adds, IsAccepted, IsAsBefore, HasEntries, IsNoOutcome, IsOutcome, MeetsNoQueueId, Records, RecordsAsked, WantsQueueId}
+use Rattle.pg_engine.proofs.BatchLemmas.{added_by, one_batch}
 use Rattle.pg_engine.proofs.WellEngine.{Grows, grown, have_fields, left_well, owned_folds, owned_sound, pages_grown, pages_known, read_well, still_quiet}
 
 -- an answer that isn't Ok owes nothing of it
@@ -64,10 +62,10 @@ on_not_ok P (Ok x) failed = cc
 on_not_ok P (Err e) failed = tt
 
 -- batches that spell entries which give a state fold to it, and denote what it stands for
-spelled_fold : (contents : Contents) (batches : List (List ℕ)) (entries : List Entry) (d : Folded) → SpellBatches batches entries → fold fresh entries ≡ Some d → JournalOf contents batches → FoldsTo contents d
+spelled_fold : (contents : Contents) (batches : List (List ℕ)) (entries : List Entry) (d : Folded) → SpellBatches batches entries → Folds fresh entries d → JournalOf contents batches → FoldsTo contents d
 spelled_fold contents batches entries d spelled folded says = record { batches = batches; entries = entries; says = says; spelled = spelled; folded = folded }
 
-pub spelled_denote : (contents : Contents) (batches : List (List ℕ)) (entries : List Entry) (d : Folded) → SpellBatches batches entries → fold fresh entries ≡ Some d → JournalOf contents batches → Denotes contents (durable_part d)
+pub spelled_denote : (contents : Contents) (batches : List (List ℕ)) (entries : List Entry) (d : Folded) → SpellBatches batches entries → Folds fresh entries d → JournalOf contents batches → Denotes contents (durable_part d)
 spelled_denote contents batches entries d spelled folded says = record { state = d; folds = spelled_fold contents batches entries d spelled folded says; is = refl }
 
 -- whatever a crash leaves of the engine's files denotes its state
@@ -143,7 +141,7 @@ changed_writes engine next old new t command payload reply outcome is what chang
     let now : IsOutcome engine.state (asked (Some command)) (Changed t payload reply) = subst (IsOutcome engine.state (asked (Some command))) is what in
     let done = recorded_by engine.state t (asked (Some command)) payload now.1 in
     let records = done.records in
-    let adds : Adds engine.state (asked (Some command)) (records.entry ∷ []) = subst (λ (a : Option Action). Adds engine.state a (records.entry ∷ [])) (sym done.is) (None, records.accepted, sym records.batch_is) in
+    let adds : Adds engine.state (asked (Some command)) (records.entry ∷ []) = subst (λ (a : Option Action). Adds engine.state a (records.entry ∷ [])) (sym done.is) (None, records.accepted, records.has_entry) in
     changes_weaker old new (ChangesFile (name_of engine.journal) Anyhow) (WritesFor engine command next) change (λ h a. (
       records.entry ∷ [],
       adds,
@@ -159,16 +157,14 @@ changed_writes engine next old new t command payload reply outcome is what chang
 no_queue_id : (s : Kept) (asks : Option Action) (action : Action) → asks ≡ Some action → IsAccepted s action → WantsQueueId s action → MeetsNoQueueId s asks
 no_queue_id s asks action is accepted wants = subst (MeetsNoQueueId s) (sym is) (accepted, wants)
 
-nothing_added : (s : Kept) (asks : Option Action) (action : Action) → asks ≡ Some action → IsAccepted s action → Adds s asks [] → entries_of s action ≡ []
-nothing_added s asks action is accepted adds =
-    let now : Adds s (Some action) [] = subst (λ (a : Option Action). Adds s a []) is adds in
-    sym (now.2 ∙ ap (λ (o : Option Refusal). unless_refused o (entries_of s action)) (one_first (causes (view_of s) (broker_of s) action) now.0 None now.1 accepted))
+nothing_added : (s : Kept) (asks : Option Action) (action : Action) (batch : List Entry) → asks ≡ Some action → IsAccepted s action → HasEntries s action batch → Adds s asks [] → batch ≡ []
+nothing_added s asks action batch is accepted has adds = one_batch s action batch [] has (added_by s action [] accepted (subst (λ (a : Option Action). Adds s a []) is adds))
 
 pub kept_within : (engine : Engine) (t : Kept) (command : Command) (reply : Reply) (outcome : Outcome) → outcome ≡ Unchanged t reply → IsOutcome engine.state (asked (Some command)) outcome → MeetsLimit engine command → ⊥
 kept_within engine t command reply outcome is what meets =
     let now : IsOutcome engine.state (asked (Some command)) (Unchanged t reply) = subst (IsOutcome engine.state (asked (Some command))) is what in
     ⊎_elim (λ none. now.2.queue_id (no_queue_id engine.state (asked (Some command)) meets.action meets.asks meets.accepted none))
-    (λ full. full.0 (nothing_added engine.state (asked (Some command)) meets.action meets.asks meets.accepted now.2.nothing)) meets.full
+    (λ full. full.some (nothing_added engine.state (asked (Some command)) meets.action full.batch meets.asks meets.accepted full.has now.2.nothing)) meets.full
 
 pub changed_within : (engine : Engine) (t : Kept) (command : Command) (payload : List ℕ) (reply : Reply) (outcome : Outcome) → outcome ≡ Changed t payload reply → IsOutcome engine.state (asked (Some command)) outcome
     → (2 ^ 62 < counted engine.journal + length payload + 9 → ⊥) → MeetsLimit engine command → ⊥
@@ -177,8 +173,10 @@ changed_within engine t command payload reply outcome is what room meets =
     let done = recorded_by engine.state t (asked (Some command)) payload now.1 in
     let same : done.action ≡ meets.action = same_Some done.action meets.action (sym done.is ∙ meets.asks) in
     let records : Records engine.state meets.action payload t = subst (λ (a : Action). Records engine.state a payload t) same done.records in
-    let bytes : length (batch_bytes (entries_of engine.state meets.action)) ≡ length payload = ap (λ (b : List Entry). length (batch_bytes b)) records.batch_is ∙ sym (ap length records.bytes) in
-    ⊎_elim records.queue_id (λ full. room (omega (arith, full.1, bytes))) meets.full
+    ⊎_elim records.queue_id
+    (λ full.
+    let bytes : length (batch_bytes full.batch) ≡ length payload = ap (λ (b : List Entry). length (batch_bytes b)) (one_batch engine.state meets.action full.batch (records.entry ∷ []) full.has records.has_entry) ∙ sym (ap length records.bytes) in
+    room (omega (arith, full.past, bytes))) meets.full
 
 -- where a limit is told it was met
 pub spent_meets : (engine : Engine) (asks : Option Action) (command : Command) → asked (Some command) ≡ asks → MeetsNoQueueId engine.state asks → MeetsLimit engine command
@@ -190,12 +188,12 @@ pub full_meets : (engine : Engine) (t : Kept) (command : Command) (payload : Lis
 full_meets engine t command payload reply outcome is what full =
     let now : IsOutcome engine.state (asked (Some command)) (Changed t payload reply) = subst (IsOutcome engine.state (asked (Some command))) is what in
     let done = recorded_by engine.state t (asked (Some command)) payload now.1 in
-    let bytes : length (batch_bytes (entries_of engine.state done.action)) ≡ length payload = ap (λ (b : List Entry). length (batch_bytes b)) done.records.batch_is ∙ sym (ap length done.records.bytes) in
+    let bytes : length (batch_bytes (done.records.entry ∷ [])) ≡ length payload = sym (ap length done.records.bytes) in
     record {
       action = done.action;
       asks = done.is;
       accepted = done.records.accepted;
-      full = inr ((λ none. some_entry done.records.entry (sym done.records.batch_is ∙ none)), omega (arith, full, bytes));
+      full = inr (record { batch = done.records.entry ∷ []; has = done.records.has_entry; some = some_entry done.records.entry; past = omega (arith, full, bytes) });
     }
   where
     some_entry : (e : Entry) → e ∷ [] ≡ [] → ⊥
@@ -275,8 +273,8 @@ module _ {D : Type 0} (m : Ghosts D) (old : D) (law : (c : Files) (b : List ℕ)
     spelled_now : SpellBatches (own.batches ++ payload ∷ []) (own.entries ++ records.entry ∷ [])
     spelled_now = spelled_push own.batches own.entries payload (records.entry ∷ []) own.spelled (spells_one payload records.entry records.bytes records.fields)
 
-    folded_now : fold fresh (own.entries ++ records.entry ∷ []) ≡ Some next.durable
-    folded_now = fold_applied fresh engine.state.durable next.durable own.entries records.entry own.folded records.applied
+    folded_now : Folds fresh (own.entries ++ records.entry ∷ []) next.durable
+    folded_now = folds_applied fresh engine.state.durable next.durable own.entries records.entry own.folded records.applied
 
     grows : Grows engine.state.durable.addresses next.durable.addresses
     grows = grown engine.state.durable.addresses next.durable.addresses engine.state.paged next.paged records.grows

@@ -1,5 +1,5 @@
 -- What is true of the parts of a state in memory stays true of them after each command.
-use Rattle.std.proofs.Common.{leb, map, option_map, ◌≡◌, refl, sym, ◌∙◌, ap, ap₂, subst, ℕ, ◌+◌, ◌-◌, ◌<◌, ◌≤◌, ◌^◌, min, Bool, true, false, List, [], ◌∷◌, ◌++◌, length, get_or, set, Some, inl, inr, ⊎_elim, arith, slice_get, leb-true, sum_by, find, None}
+use Rattle.std.proofs.Common.{leb, map, option_map, ◌≡◌, refl, sym, ◌∙◌, ap, ap₂, subst, ℕ, ◌+◌, ◌-◌, ◌<◌, ◌≤◌, ◌^◌, min, Bool, true, false, List, [], ◌∷◌, ◌++◌, length, get_or, set, Some, inl, inr, ⊎_elim, arith, slice_get, leb-true, sum_by, find, None, Option}
 use Rattle.std.proofs.lemmas.Bool.{cases_eq, and_parts, both_ways, le-leb}
 use Rattle.std.proofs.lemmas.List.{map-append, get_or-map, get_or_default, length-append}
 use Rattle.std.proofs.lemmas.List.Elements.{All-push, All-weaker}
@@ -17,11 +17,13 @@ use Rattle.pg_fold.specs.Fold.{rule_of, changed, are_settings}
 use Rattle.pg_fold.specs.Rows.{same_id}
 use Rattle.pg_recover.specs.Denotation.{address_of, weight_at}
 use Rattle.pg_recover.specs.WellFormed.{AreRoomy}
+use Rattle.pg_parse.specs.declared.tree.Tree.{Tree}
+use Rattle.pg_parse.specs.FilterTexts.{ReadsAs}
 use Rattle.pg_model.specs.Broker.{Address, Consumer, IsDrawn}
 use Rattle.pg_model.specs.Refusals.{WouldPage}
 use Rattle.pg_dispatch.specs.Dispatch.{Line}
 use Rattle.pg_routes.specs.Names.{RouteNames, with_address, with_queue, without_queue}
-use Rattle.pg_engine.specs.Kept.{Kept, IsFit, IsId, HasRoom, broker_of, view_of, lines_in, name_of_address, name_of_queue, weights_in}
+use Rattle.pg_engine.specs.Kept.{Kept, IsFit, IsId, HasRoom, broker_of, view_of, lines_in, weights_in}
 use Rattle.pg_engine.proofs.AcknowledgingLemmas.{all_acknowledged, lightened, relief_of, weights_lightened}
 use Rattle.pg_engine.proofs.DroppingLemmas.{all_left, lighter}
 use Rattle.pg_engine.proofs.NamingLemmas.{names_address, names_queue, names_left}
@@ -117,7 +119,7 @@ module _ (d : Durable) (names : RouteNames) (weights : List ℕ) (lines : List L
         → more ≡ lines_in after → IsFit now names (set weights (address - 1) weight) more paged (drawn + 1)
     with_message_fit now weight more condition fields is heavier lined =
         subst (λ (x : Durable). IsFit x names (set weights (address - 1) weight) more paged (drawn + 1)) (sym is) (record {
-          sound = sound_kept d after (entry.Add address numbers m) fit.sound fields (record { condition = condition; effect = refl });
+          sound = sound_kept d after (entry.Add address numbers m) fit.sound fields (record { condition = condition; readable = tt; effect = refl });
           begun = fit.begun;
           roomy = still_room;
           drawn_all = All-push (λ r. IsDrawn d.epoch (drawn + 1) r.message.id) d.journaled (record { address = address; message = m; holders = numbers })
@@ -138,29 +140,29 @@ with_address_fit d now old names weights more_weights lines paged more_paged dra
     let after = changed d (entry.Address (length d.addresses + 1) name max page ahead dup) in
     let nothing : weight_at (length d.addresses + 1) d.journaled ≡ 0 = ap (λ (held : List Message). sum_by weight_of held) (nothing_at d fit.sound) in
     subst (λ (x : Durable). IsFit x names more_weights lines more_paged drawn) (sym is) (record {
-      sound = sound_kept d after (entry.Address (length d.addresses + 1) name max page ahead dup) fit.sound fields (record { condition = condition; effect = refl });
+      sound = sound_kept d after (entry.Address (length d.addresses + 1) name max page ahead dup) fit.sound fields (record { condition = condition; readable = tt; effect = refl });
       begun = fit.begun;
       roomy = All-push (λ r. weight_at r.id d.journaled < r.max + 102400) d.addresses new fit.roomy (omega (arith, nothing));
       drawn_all = fit.drawn_all;
-      named = named ∙ ap (with_address (name_of_address new)) fit.named ∙ names_address d new fit.sound refl;
+      named = names_address d new old names fit.sound refl fit.named named;
       weighed = weighed ∙ ap₂ (λ (l : List ℕ) (w : ℕ). l ++ (w ∷ [])) fit.weighed (sym nothing) ∙ sym (map-append (λ (r : AddressRow). weight_at r.id d.journaled) d.addresses (new ∷ []));
       lined = fit.lined;
       counted = omega (arith, ap length marked, length-append paged (false ∷ []), length-append d.addresses (new ∷ []), fit.counted);
     })
 
 -- a queue more
-pub with_queue_fit : (d now : Durable) (old names : RouteNames) (weights : List ℕ) (lines more : List Line) (paged : List Bool) (drawn address : ℕ) (name : List ℕ) → IsFit d old weights lines paged drawn
-    → rule_of d (entry.Queue d.next address name []) ≡ None → HasFields (entry.Queue d.next address name []) → now ≡ changed d (entry.Queue d.next address name [])
-    → names ≡ with_queue (record { id = d.next; address = address; name = name }) old → more ≡ lines_in (changed d (entry.Queue d.next address name [])) → IsFit now names weights more paged drawn
-with_queue_fit d now old names weights lines more paged drawn address name fit condition fields is named lined =
-    let new : QueueRow = record { id = d.next; address = address; name = name; filter = [] } in
-    let after = changed d (entry.Queue d.next address name []) in
+pub with_queue_fit : (d now : Durable) (old names : RouteNames) (weights : List ℕ) (lines more : List Line) (paged : List Bool) (drawn address : ℕ) (name filter : List ℕ) (tree : Option Tree) → IsFit d old weights lines paged drawn
+    → rule_of d (entry.Queue d.next address name filter) ≡ None → HasFields (entry.Queue d.next address name filter) → ReadsAs filter tree → now ≡ changed d (entry.Queue d.next address name filter)
+    → names ≡ with_queue (record { id = d.next; address = address; name = name; filter = tree }) old → more ≡ lines_in (changed d (entry.Queue d.next address name filter)) → IsFit now names weights more paged drawn
+with_queue_fit d now old names weights lines more paged drawn address name filter tree fit condition fields reads is named lined =
+    let new : QueueRow = record { id = d.next; address = address; name = name; filter = filter } in
+    let after = changed d (entry.Queue d.next address name filter) in
     subst (λ (x : Durable). IsFit x names weights more paged drawn) (sym is) (record {
-      sound = sound_kept d after (entry.Queue d.next address name []) fit.sound fields (record { condition = condition; effect = refl });
+      sound = sound_kept d after (entry.Queue d.next address name filter) fit.sound fields (record { condition = condition; readable = (tree, reads); effect = refl });
       begun = fit.begun;
       roomy = fit.roomy;
       drawn_all = fit.drawn_all;
-      named = named ∙ ap (with_queue (name_of_queue new)) fit.named ∙ names_queue d new fit.sound refl;
+      named = names_queue d new tree old names fit.sound refl fit.named reads named;
       weighed = fit.weighed;
       lined = lined;
       counted = fit.counted;
@@ -178,11 +180,11 @@ pub without_queue_fit : (d now : Durable) (old names : RouteNames) (weights fewe
 without_queue_fit d now old names weights fewer lines left paged drawn queue fit condition fields is named weighed lined =
     let after = changed d (entry.DropQueue queue) in
     subst (λ (x : Durable). IsFit x names fewer left paged drawn) (sym is) (record {
-      sound = sound_kept d after (entry.DropQueue queue) fit.sound fields (record { condition = condition; effect = refl });
+      sound = sound_kept d after (entry.DropQueue queue) fit.sound fields (record { condition = condition; readable = tt; effect = refl });
       begun = fit.begun;
       roomy = roomy_left d queue fit.roomy;
       drawn_all = all_left queue (λ m. IsDrawn d.epoch drawn m.id) d.journaled fit.drawn_all;
-      named = named ∙ ap (without_queue queue) fit.named ∙ names_left d queue;
+      named = names_left d queue old names fit.named named;
       weighed = weighed ∙ ap weights_in is;
       lined = lined;
       counted = fit.counted;
@@ -203,7 +205,7 @@ without_message_fit d now names weights lines left paged drawn queue address wei
     let fewer = set weights (address - 1) (weight - bytes) in
     let here : weight ≡ weight_at address d.journaled = kept_weight d names weights lines paged drawn address fit known weight read in
     subst (λ (x : Durable). IsFit x names fewer left paged drawn) (sym is) (record {
-      sound = sound_kept d after (entry.Ack queue id) fit.sound fields (record { condition = condition; effect = refl });
+      sound = sound_kept d after (entry.Ack queue id) fit.sound fields (record { condition = condition; readable = tt; effect = refl });
       begun = fit.begun;
       roomy = roomy_acknowledged d queue id row found fit.roomy;
       drawn_all = all_acknowledged queue id (λ m. IsDrawn d.epoch drawn m.id) d.journaled fit.drawn_all;

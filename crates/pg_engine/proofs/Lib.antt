@@ -1,7 +1,9 @@
 pub mod AcknowledgingLemmas
+pub mod BatchLemmas
 pub mod DroppingLemmas
 pub mod EntryLemmas
 pub mod Executing
+pub mod FilterLemmas
 pub mod FitLemmas
 pub mod LineLemmas
 pub mod LookupLemmas
@@ -9,6 +11,7 @@ pub mod NamingLemmas
 pub mod OpenedState
 pub mod OpeningLemmas
 pub mod PartLemmas
+pub mod RoutingLemmas
 pub mod StepLemmas
 pub mod WeightLemmas
 pub mod WellEngine

@@ -90,11 +90,11 @@ module _ (d : Durable) (old : Dispatch) (lined : old.lines ≡ lines_in d) where
   still_over = λ i. record { lines = lined i; consumers = old.consumers }
 
   -- after a queue more
-  pub lined_queue : (address : ℕ) (name : List ℕ) → IsSound d → (with_line d.next old).lines ≡ lines_in (changed d (entry.Queue d.next address name []))
-  lined_queue address name sound =
+  pub lined_queue : (address : ℕ) (name filter : List ℕ) → IsSound d → (with_line d.next old).lines ≡ lines_in (changed d (entry.Queue d.next address name filter))
+  lined_queue address name filter sound =
       ap (λ (ls : List Line). ls ++ (record { queue = d.next; ids = [] } ∷ [])) lined
-      ∙ sym (map-append line_from queues (record { id = d.next; name = name; address = address; messages = [] } ∷ []))
-      ∙ sym (ap (λ (b : BrokerDurable). map line_from b.queues) (with_queue_part d address name sound))
+      ∙ sym (map-append line_from queues (record { id = d.next; name = name; address = address; filter = filter; messages = [] } ∷ []))
+      ∙ sym (ap (λ (b : BrokerDurable). map line_from b.queues) (with_queue_part d address name filter sound))
 
   -- after a queue less
   pub lined_drop : (queue : ℕ) → (without_line queue old).lines ≡ lines_in (changed d (entry.DropQueue queue))

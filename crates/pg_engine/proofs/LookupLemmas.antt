@@ -15,10 +15,10 @@ use Rattle.pg_fold.specs.Rows.{AreNumbered, has_address_named, has_queue_named}
 use Rattle.pg_model.specs.Broker.{Address, Queue}
 use Rattle.pg_model.specs.Broker.{address_named as broker_address_named}
 use Rattle.pg_model.specs.Broker.{queue_named as broker_queue_named}
-use Rattle.pg_model.specs.Refusals.{queues_of}
+use Rattle.pg_model.specs.Routing.{queues_of}
 use Rattle.pg_recover.specs.Denotation.{address_of, queue_of}
 use Rattle.pg_routes.specs.Names.{AddressName, QueueName}
-use Rattle.pg_engine.specs.Kept.{IsId, name_of_address, name_of_queue}
+use Rattle.pg_engine.specs.Kept.{IsId, Trees, name_of_address, name_of_queue}
 
 -- what is looked for in a mapped list is looked for in the list
 prefix_len_map : {X Y : Type 0} (test : Y → Bool) (f : X → Y) (xs : List X) → prefix_len test (map f xs) ≡ prefix_len (λ x. test (f x)) xs
@@ -147,12 +147,12 @@ module _ (name : List ℕ) (messages : List JournaledRow) (rows : List QueueRow)
   queue_is : broker_queue_named (map (queue_of messages) rows) name ≡ option_map (queue_of messages) found
   queue_is = find_map (λ (q : Queue). bytes_eq name q.name) (queue_of messages) rows
 
-  pub queue_found : option_map (λ (q : QueueName). q.id) (find (λ (q : QueueName). bytes_eq name q.name) (map name_of_queue rows)) ≡ option_map (λ (q : Queue). q.id) (broker_queue_named (map (queue_of messages) rows) name)
-  queue_found =
-      ap (option_map (λ (q : QueueName). q.id)) (find_map (λ (q : QueueName). bytes_eq name q.name) name_of_queue rows)
+  pub queue_found : (trees : Trees) → option_map (λ (q : QueueName). q.id) (find (λ (q : QueueName). bytes_eq name q.name) (map (name_of_queue trees) rows)) ≡ option_map (λ (q : Queue). q.id) (broker_queue_named (map (queue_of messages) rows) name)
+  queue_found trees =
+      ap (option_map (λ (q : QueueName). q.id)) (find_map (λ (q : QueueName). bytes_eq name q.name) (name_of_queue trees) rows)
       ∙ inside found ∙ ap (option_map (λ (q : Queue). q.id)) (sym queue_is)
     where
-      inside : (o : Option QueueRow) → option_map (λ (q : QueueName). q.id) (option_map name_of_queue o) ≡ option_map (λ (q : Queue). q.id) (option_map (queue_of messages) o)
+      inside : (o : Option QueueRow) → option_map (λ (q : QueueName). q.id) (option_map (name_of_queue trees) o) ≡ option_map (λ (q : Queue). q.id) (option_map (queue_of messages) o)
       inside None = refl
       inside (Some row) = refl
 
@@ -177,26 +177,21 @@ module _ (name : List ℕ) (messages : List JournaledRow) (rows : List QueueRow)
       no_row_found (Some row) is = absurd (none-some (queue_of messages row) (sym is))
 
 -- ---- the queues of an address
-pub routed_is : (address : ℕ) (messages : List JournaledRow) (rows : List QueueRow) → map (λ (q : QueueName). q.id) (filter (λ (q : QueueName). q.address == address) (map name_of_queue rows)) ≡ queues_of address (map (queue_of messages) rows)
-routed_is address messages [] = refl
-routed_is address messages (row ∷ rows) = by (row.address == address) (routed_is address messages rows)
-  where
-    by : (b : Bool) → map (λ (q : QueueName). q.id) (filter (λ (q : QueueName). q.address == address) (map name_of_queue rows)) ≡ queues_of address (map (queue_of messages) rows) → map (λ (q : QueueName). q.id) (cond b (name_of_queue row ∷ filter (λ (q : QueueName). q.address == address) (map name_of_queue rows)) (filter (λ (q : QueueName). q.address == address) (map name_of_queue rows)))
-        ≡ map (λ (q : Queue). q.id) (cond b (queue_of messages row ∷ filter (λ (q : Queue). q.address == address) (map (queue_of messages) rows)) (filter (λ (q : Queue). q.address == address) (map (queue_of messages) rows)))
-    by true others = ap (λ (l : List ℕ). row.id ∷ l) others
-    by false others = others
+module _ (trees : Trees) (address : ℕ) (messages : List JournaledRow) where
+  -- as the routes name them, and as the broker has them
+  abbrev named_at : List QueueRow → List QueueName
+  named_at rows = filter (λ (q : QueueName). q.address == address) (map (name_of_queue trees) rows)
 
--- the same, row by row
-abbrev pub ids_at : ℕ → List QueueRow → List ℕ
-ids_at address [] = []
-ids_at address (row ∷ rows) = cond (row.address == address) (row.id ∷ ids_at address rows) (ids_at address rows)
+  abbrev held_at : List QueueRow → List Queue
+  held_at rows = queues_of address (map (queue_of messages) rows)
 
-pub routed_rows : (address : ℕ) (messages : List JournaledRow) (rows : List QueueRow) → queues_of address (map (queue_of messages) rows) ≡ ids_at address rows
-routed_rows address messages [] = refl
-routed_rows address messages (row ∷ rows) = by (row.address == address) (routed_rows address messages rows)
-  where
-    by : (b : Bool) → queues_of address (map (queue_of messages) rows) ≡ ids_at address rows
-        → map (λ (q : Queue). q.id) (cond b (queue_of messages row ∷ filter (λ (q : Queue). q.address == address) (map (queue_of messages) rows)) (filter (λ (q : Queue). q.address == address) (map (queue_of messages) rows)))
-        ≡ cond b (row.id ∷ ids_at address rows) (ids_at address rows)
-    by true others = ap (λ (l : List ℕ). row.id ∷ l) others
-    by false others = others
+  abbrev ids : List QueueName → List ℕ
+  ids queues = map (λ (q : QueueName). q.id) queues
+
+  pub count_is : (rows : List QueueRow) → length (ids (named_at rows)) ≡ length (held_at rows)
+  count_is [] = refl
+  count_is (row ∷ rows) = by (row.address == address) (count_is rows)
+    where
+      by : (b : Bool) → length (ids (named_at rows)) ≡ length (held_at rows) → length (ids (cond b (name_of_queue trees row ∷ named_at rows) (named_at rows))) ≡ length (cond b (queue_of messages row ∷ held_at rows) (held_at rows))
+      by true others = omega (arith, others)
+      by false others = others

@@ -9,7 +9,7 @@ use Rattle.pg_recover.specs.Recovered.{IsBegun}
 use Rattle.pg_recover.specs.WellFormed.{AreRoomy}
 use Rattle.pg_routes.specs.Names.{RouteNames}
 use Rattle.pg_dispatch.specs.Dispatch.{Line}
-use Rattle.pg_engine.specs.Kept.{IsFit, lines_in, names_in, weights_in}
+use Rattle.pg_engine.specs.Kept.{AreRoutesOf, IsFit, lines_in, weights_in}
 
 -- the next epoch begins no message
 raised_sound : (d : Durable) → IsSound d → IsSound (raised d)
@@ -31,7 +31,7 @@ raised_drawn : (d : Durable) → IsSound d → All (λ row. IsDrawn (d.epoch + 1
 raised_drawn d sound = All-weaker (λ row. row.message.id.epoch ≤ d.epoch) (λ row. IsDrawn (d.epoch + 1) 0 row.message.id) (λ row low. inl (omega arith)) d.journaled sound.messages.begun
 
 -- the names and the weights that are kept are those in the state
-pub opened_fit : (d : Durable) (names : RouteNames) (weights : List ℕ) (lines : List Line) (paged : List Bool) → IsBegun d → AreRoomy d → names ≡ names_in d → weights ≡ weights_in d → lines ≡ lines_in d → length paged ≡ length d.addresses → IsFit d names weights lines paged 0
+pub opened_fit : (d : Durable) (names : RouteNames) (weights : List ℕ) (lines : List Line) (paged : List Bool) → IsBegun d → AreRoomy d → AreRoutesOf d.addresses d.queues names → weights ≡ weights_in d → lines ≡ lines_in d → length paged ≡ length d.addresses → IsFit d names weights lines paged 0
 opened_fit d names weights lines paged begun roomy named weighed lined counted = record {
   sound = begun_sound d begun;
   begun = omega (arith, ap (λ (x : Durable). x.epoch) begun.is);

@@ -103,12 +103,12 @@ with_address_part d name max page ahead dup =
     ap (λ (addresses : List Address). record { epoch = d.epoch; next = d.next; addresses = addresses; queues = map (queue_of d.journaled) d.queues }) (map-append address_of d.addresses (row ∷ []))
 
 -- and a further queue, which has no messages
-pub with_queue_part : (d : Durable) (address : ℕ) (name : List ℕ) → IsSound d → durable_part (changed d (entry.Queue d.next address name [])) ≡ with_queue (durable_part d) name address
-with_queue_part d address name sound =
-    let row : QueueRow = record { id = d.next; address = address; name = name; filter = [] } in
+pub with_queue_part : (d : Durable) (address : ℕ) (name filter : List ℕ) → IsSound d → durable_part (changed d (entry.Queue d.next address name filter)) ≡ with_queue (durable_part d) name address filter
+with_queue_part d address name filter sound =
+    let row : QueueRow = record { id = d.next; address = address; name = name; filter = filter } in
     ap (λ (queues : List Queue). record { epoch = d.epoch; next = d.next + 1; addresses = map address_of d.addresses; queues = queues }) (
     map-append (queue_of d.journaled) d.queues (row ∷ [])
-    ∙ ap (λ (messages : List Message). map (queue_of d.journaled) d.queues ++ (record { id = d.next; name = name; address = address; messages = messages } ∷ [])) (nothing_by d sound)
+    ∙ ap (λ (messages : List Message). map (queue_of d.journaled) d.queues ++ (record { id = d.next; name = name; address = address; filter = filter; messages = messages } ∷ [])) (nothing_by d sound)
     )
 
 -- a message more, at the address with this id and for these queues
@@ -168,7 +168,7 @@ module _ (rows : List JournaledRow) (address : ℕ) (holders : List ℕ) (m : Me
       ap₂ (λ (w : ℕ) (ws : List ℕ). w ∷ ws) (weight_elsewhere row.id (λ same. let first = counts.0 in omega arith)) (weights_from (base + 1) place addresses counts.1 (omega (arith, is)))
 
   abbrev has : QueueRow → List Message → Queue
-  has row messages = record { id = row.id; name = row.name; address = row.address; messages = messages }
+  has row messages = record { id = row.id; name = row.name; address = row.address; filter = row.filter; messages = messages }
 
   given_one : (row : QueueRow) (b : Bool) → has_number holders row.id ≡ b → queue_of more row ≡ cond b (has row (held_by row.id rows ++ (m ∷ []))) (has row (held_by row.id rows))
   given_one row true told = ap (has row) (held_by_more row.id true told)

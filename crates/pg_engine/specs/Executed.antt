@@ -29,7 +29,7 @@ use Rattle.pg_recover.specs.Viewing.{ArePaged, Shows}
 use Rattle.pg_recover.specs.WellFormed.{AreRoomy, IsThere, page_file}
 use Rattle.pg_engine.specs.declared.engine.Engine.{Engine}
 use Rattle.pg_engine.specs.Kept.{Kept, broker_of, view_of}
-use Rattle.pg_engine.specs.Outcomes.{Adds, IsAccepted, WantsQueueId, entries_of}
+use Rattle.pg_engine.specs.Outcomes.{Adds, HasEntries, IsAccepted, WantsQueueId}
 
 -- the state that the engine stands for, and what it tells of the addresses
 abbrev pub state_of : Engine → Broker
@@ -57,14 +57,19 @@ IsBounded s view =
     (id : ℕ) (address : Address) → 1 ≤ id → slice_get s.durable.addresses (id - 1) ≡ Some address
     → (view id).resident < address.settings.max + WEIGHT_LIMIT
 
+-- with the batch of the action, which isn't empty, the journal would grow past its limit
+pub record PassesLimit (engine : Engine) (action : Action) : Type 0 where
+  pub batch : List Entry
+  pub has : HasEntries engine.state action batch
+  pub some : batch ≢ []
+  pub past : FILE_LIMIT < counted engine.journal + length (batch_bytes batch) + 9
+
 -- the command isn't refused, and no queue id is left for it, or with its batch the journal would grow past its limit
 pub record MeetsLimit (engine : Engine) (command : Command) : Type 0 where
   pub action : Action
   pub asks : asked (Some command) ≡ Some action
   pub accepted : IsAccepted engine.state action
-  pub full : WantsQueueId engine.state action
-      ⊎ ((entries_of engine.state action ≢ [])
-      × (FILE_LIMIT < counted engine.journal + length (batch_bytes (entries_of engine.state action)) + 9))
+  pub full : WantsQueueId engine.state action ⊎ PassesLimit engine action
 
 -- The journal says what it said and then the bytes of the batch, in its file, and nothing else changed. Where the batch
 -- is empty nothing is written or synced.

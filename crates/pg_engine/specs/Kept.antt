@@ -11,6 +11,8 @@ use Rattle.pg_fold.specs.declared.rows.JournaledRow.{JournaledRow}
 use Rattle.pg_fold.specs.declared.rows.QueueRow.{QueueRow}
 use Rattle.pg_fold.specs.Rows.{is_held, released, same_id}
 use Rattle.pg_fold.specs.Sound.{IsSound}
+use Rattle.pg_parse.specs.declared.tree.Tree.{Tree}
+use Rattle.pg_parse.specs.FilterTexts.{ReadsAs}
 use Rattle.pg_model.specs.Broker.{Broker, Consumer, Queue, IsDrawn, consumer_named, queue_with}
 use Rattle.pg_model.specs.Changes.{with_flights, with_id}
 use Rattle.pg_model.specs.Refusals.{View}
@@ -47,21 +49,32 @@ view_of kept = λ id. record {
 abbrev pub IsId : ℕ → ℕ → Type 0
 IsId count id = (1 ≤ id) × (id ≤ count)
 
+-- the filters of live queues as trees, by the ids of the queues
+abbrev pub Trees : Type 0
+Trees = ℕ → Option Tree
+
 -- an address and a live queue as the routes name them
 abbrev pub name_of_address : AddressRow → AddressName
 name_of_address row = record { id = row.id; name = row.name }
 
-abbrev pub name_of_queue : QueueRow → QueueName
-name_of_queue row = record { id = row.id; address = row.address; name = row.name }
+abbrev pub name_of_queue : Trees → QueueRow → QueueName
+name_of_queue trees row = record { id = row.id; address = row.address; name = row.name; filter = trees row.id }
 
--- the names of these addresses and queues
-abbrev pub names_of_rows : List AddressRow → List QueueRow → RouteNames
-names_of_rows addresses queues = record { addresses = map name_of_address addresses; queues = map name_of_queue queues }
+-- the trees are those that the texts of the queues' filters are read as
+abbrev pub AreTreesOf : Trees → List QueueRow → Type 0
+AreTreesOf trees queues = All (λ row. ReadsAs row.filter (trees row.id)) queues
 
--- The names of a folded state, and the bytes of the messages of each address.
-abbrev pub names_in : Durable → RouteNames
-names_in d = names_of_rows d.addresses d.queues
+-- The routes have these addresses, and name these queues, each with the tree of its filter.
+pub record AreNamed (addresses : List AddressName) (queues : List QueueRow) (names : RouteNames) : Type 0 where
+  pub trees : Trees
+  pub named : names ≡ record { addresses = addresses; queues = map (name_of_queue trees) queues }
+  pub read : AreTreesOf trees queues
 
+-- So they name these addresses and queues.
+abbrev pub AreRoutesOf : List AddressRow → List QueueRow → RouteNames → Type 0
+AreRoutesOf addresses queues names = AreNamed (map name_of_address addresses) queues names
+
+-- The bytes of the messages of each address.
 abbrev pub weights_in : Durable → List ℕ
 weights_in d = map (λ row. weight_at row.id d.journaled) d.addresses
 
@@ -80,7 +93,7 @@ pub record IsFit (durable : Durable) (names : RouteNames) (weights : List ℕ) (
   pub begun : 1 ≤ durable.epoch
   pub roomy : AreRoomy durable
   pub drawn_all : All (λ row. IsDrawn durable.epoch drawn row.message.id) durable.journaled
-  pub named : names ≡ names_in durable
+  pub named : AreRoutesOf durable.addresses durable.queues names
   pub weighed : weights ≡ weights_in durable
   pub lined : lines ≡ lines_in durable
   pub counted : length paged ≡ length durable.addresses

@@ -1,4 +1,5 @@
 pub mod Executed
+pub mod Filters
 pub mod Kept
 pub mod Opened
 pub mod Outcomes

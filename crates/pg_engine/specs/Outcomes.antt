@@ -1,5 +1,5 @@
 -- What a command does to what is kept in memory, and the batch that the journal gets for it.
-use Rattle.std.specs.Prelude.{◌≡◌, ◌⊎◌, ◌≤◌, ◌+◌, ℕ, Bool, false, List, [], ◌∷◌, ◌++◌, length, Option, Some, None}
+use Rattle.std.specs.Prelude.{◌≡◌, ◌⊎◌, ◌≤◌, ◌+◌, ℕ, Bool, false, List, [], ◌∷◌, ◌++◌, length, Option, Some, None, MatchOption}
 use Rattle.std.specs.Option.{option_map_or}
 use Rattle.pg_disk.specs.declared.fault.Fault.{Fault}
 use Rattle.pg_disk.specs.declared.fault.Fault.TheVariants.{Failed, Damaged, Spent, Memory}
@@ -10,7 +10,8 @@ use Rattle.pg_model.specs.Actions.{Action, MakeAddress, MakeQueue, DropQueue, Se
 use Rattle.pg_model.specs.Broker.{Settings, address_named, consumer_named, queue_named}
 use Rattle.pg_model.specs.Causes.{IsFirst}
 use Rattle.pg_model.specs.Changes.{message_of, next_id}
-use Rattle.pg_model.specs.Refusals.{causes, routed}
+use Rattle.pg_model.specs.Refusals.{causes}
+use Rattle.pg_model.specs.Routing.{IsRouted, text_of}
 use Rattle.pg_model.specs.Steps.{Takes}
 use Rattle.pg_records.specs.declared.entry.Entry.{Entry}
 use Rattle.pg_records.specs.declared.entry.Entry.TheVariants as entry
@@ -34,30 +35,50 @@ abbrev pub entries_of_message : ℕ → List ℕ → Message → List Entry
 entries_of_message address [] m = []
 entries_of_message address (number ∷ numbers) m = entry.Add address (number ∷ numbers) m ∷ []
 
--- the batch of an action that isn't refused; one without entries writes nothing
-abbrev pub entries_of : Kept → Action → List Entry
-entries_of s (MakeAddress name settings) =
+-- the batch of an action that isn't refused, where its message goes to these queues; one without entries writes nothing
+abbrev pub entries_of : Kept → List ℕ → Action → List Entry
+entries_of s numbers (MakeAddress name settings) =
     entry.Address (length s.durable.addresses + 1) name settings.max settings.page settings.ahead settings.dup ∷ []
-entries_of s (MakeQueue name address) =
-    option_map_or (λ id. entry.Queue s.durable.next id name [] ∷ [])
+entries_of s numbers (MakeQueue name address filter) =
+    option_map_or (λ id. entry.Queue s.durable.next id name (text_of filter) ∷ [])
     (address_named (broker_of s).durable.addresses address) []
-entries_of s (DropQueue name) =
+entries_of s numbers (DropQueue name) =
     option_map_or (λ q. entry.DropQueue q.id ∷ []) (queue_named (broker_of s).durable.queues name) []
-entries_of s (Send address properties body) =
-    option_map_or
-    (λ id. entries_of_message id (routed (broker_of s) id) (message_of (next_id (broker_of s)) properties body))
+entries_of s numbers (Send address properties body) =
+    option_map_or (λ id. entries_of_message id numbers (message_of (next_id (broker_of s)) properties body))
     (address_named (broker_of s).durable.addresses address) []
-entries_of s (Open name queue) = []
-entries_of s (Receive consumer) = []
-entries_of s (Acknowledge consumer id) =
+entries_of s numbers (Open name queue) = []
+entries_of s numbers (Receive consumer) = []
+entries_of s numbers (Acknowledge consumer id) =
     option_map_or (λ c. entry.Ack c.queue id ∷ []) (consumer_named s.consumers consumer) []
-entries_of s (Cancel consumer id) = []
-entries_of s (Close consumer) = []
-entries_of s (Count queue) = []
+entries_of s numbers (Cancel consumer id) = []
+entries_of s numbers (Close consumer) = []
+entries_of s numbers (Count queue) = []
+
+-- these are the queues that the message of an action goes to; an action without a message has none
+abbrev pub AreTakers : Kept → Action → List ℕ → Type 0
+AreTakers s (Send address properties body) numbers =
+    MatchOption (address_named (broker_of s).durable.addresses address) (numbers ≡ [])
+    (λ id. IsRouted (broker_of s) id properties numbers)
+AreTakers s (MakeAddress name settings) numbers = numbers ≡ []
+AreTakers s (MakeQueue name address filter) numbers = numbers ≡ []
+AreTakers s (DropQueue name) numbers = numbers ≡ []
+AreTakers s (Open name queue) numbers = numbers ≡ []
+AreTakers s (Receive consumer) numbers = numbers ≡ []
+AreTakers s (Acknowledge consumer id) numbers = numbers ≡ []
+AreTakers s (Cancel consumer id) numbers = numbers ≡ []
+AreTakers s (Close consumer) numbers = numbers ≡ []
+AreTakers s (Count queue) numbers = numbers ≡ []
+
+-- so this is the batch of the action
+pub record HasEntries (s : Kept) (action : Action) (batch : List Entry) : Type 0 where
+  pub takers : List ℕ
+  pub are : AreTakers s action takers
+  pub is : batch ≡ entries_of s takers action
 
 -- no id is left for a further queue
 abbrev pub WantsQueueId : Kept → Action → Type 0
-WantsQueueId s (MakeQueue name address) = QUEUE_ID_LIMIT ≤ s.durable.next
+WantsQueueId s (MakeQueue name address filter) = QUEUE_ID_LIMIT ≤ s.durable.next
 WantsQueueId s (MakeAddress name settings) = ⊥
 WantsQueueId s (DropQueue name) = ⊥
 WantsQueueId s (Send address properties body) = ⊥
@@ -72,17 +93,17 @@ WantsQueueId s (Count queue) = ⊥
 abbrev pub IsAccepted : Kept → Action → Type 0
 IsAccepted s action = IsFirst (causes (view_of s) (broker_of s) action) None
 
--- nothing where it is refused
-abbrev pub unless_refused : Option Refusal → List Entry → List Entry
-unless_refused None batch = batch
-unless_refused (Some refusal) batch = []
+-- the batch of the action, and nothing where it is refused
+abbrev pub AddsUnless : Kept → Action → Option Refusal → List Entry → Type 0
+AddsUnless s action None batch = HasEntries s action batch
+AddsUnless s action (Some refusal) batch = batch ≡ []
 
 -- what is asked adds this to the journal
 abbrev pub Adds : Kept → Option Action → List Entry → Type 0
 Adds s None batch = batch ≡ []
 Adds s (Some action) batch =
     (refusal : Option Refusal) × IsFirst (causes (view_of s) (broker_of s) action) refusal
-    × (batch ≡ unless_refused refusal (entries_of s action))
+    × AddsUnless s action refusal batch
 
 -- ---- what comes of it in memory
 -- an action that isn't refused finds no id for its queue
@@ -108,7 +129,7 @@ pub record Records (s : Kept) (action : Action) (batch : List ℕ) (t : Kept) : 
   pub entry : Entry
   pub accepted : IsAccepted s action
   pub queue_id : WantsQueueId s action → ⊥
-  pub batch_is : entries_of s action ≡ entry ∷ []
+  pub has_entry : HasEntries s action (entry ∷ [])
   pub applied : IsApplied s.durable entry t.durable
   pub fields : HasFields entry
   pub bytes : batch ≡ batch_bytes (entry ∷ [])

@@ -30,7 +30,7 @@ impl State {
                 name,
                 address,
                 filter,
-            } => self.add_queue_with(alloc, name, address, filter),
+            } => self.add_queue(alloc, name, address, filter),
             Command::DropQueue { name } => self.drop_queue(alloc, name),
             Command::Send {
                 address,

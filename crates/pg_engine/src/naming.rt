@@ -1,10 +1,12 @@
 // The names of a folded state, by hash.
-ghost use Rattle.std.specs.Prelude.{◌≡◌, ◌≢◌, [], map, AllPairs, IfOk};
+ghost use Rattle.std.specs.Prelude.{◌≡◌, ◌≢◌, [], All, AllPairs, IfOk};
 ghost use Rattle.pg_fold.specs.Rows.{AreAscending};
 ghost use Rattle.pg_fold.specs.Sound.{AreAddresses};
-ghost use Rattle.pg_engine.specs.Kept.{name_of_queue, names_of_rows};
+ghost use Rattle.pg_parse.specs.FilterTexts.{IsReadable, ReadsAs};
+ghost use Rattle.pg_engine.specs.Kept.{AreNamed, AreRoutesOf};
 
 use pg_fold::{AddressRow, QueueRow};
+use pg_parse::{Tree, filter_of};
 use pg_routes::Routes;
 use std::alloc::{AllocError, Global};
 
@@ -17,7 +19,8 @@ pub(crate) fn named_routes(
     requires addresses { AreAddresses addresses.now }
     requires ascending { AreAscending queues.now }
     requires names { AllPairs (λ row other. row.name ≢ other.name) queues.now }
-    ensures { IfOk result (λ routes. routes ≡ names_of_rows addresses.now queues.now) }
+    requires filters { All (λ row. IsReadable row.filter) queues.now }
+    ensures { IfOk result (AreRoutesOf addresses.now queues.now) }
 {
     let mut routes = Routes::new(alloc);
     for row in addresses {
@@ -26,16 +29,28 @@ pub(crate) fn named_routes(
     name_queues(alloc, routes, queues)
 }
 
-// Adds the names of the queues.
+// The tree of the filter that is kept as this text.
+fn read_tree(alloc: Global, text: &str) -> Result<Option<Tree>, AllocError>
+    requires { IsReadable text.now }
+    ensures { IfOk result (ReadsAs text.now) }
+{
+    match filter_of(alloc, text) {
+        Ok(tree) => Ok(tree),
+        Err(_) => Err(AllocError),
+    }
+}
+
+// Adds the names of the queues, with their filters.
 fn name_queues(alloc: Global, mut routes: Routes, queues: &[QueueRow]) -> Result<Routes, AllocError>
     requires none { routes.queues ≡ [] }
     requires ascending { AreAscending queues.now }
     requires names { AllPairs (λ row other. row.name ≢ other.name) queues.now }
-    ensures { IfOk result
-        (λ named. named ≡ record { addresses = routes.addresses; queues = map name_of_queue queues.now }) }
+    requires filters { All (λ row. IsReadable row.filter) queues.now }
+    ensures { IfOk result (AreNamed routes.addresses queues.now) }
 {
     for row in queues {
-        routes.add_queue(alloc, row.id, row.address, row.name.copy()?)?;
+        let tree = read_tree(alloc, row.filter.as_str())?;
+        routes.add_queue(alloc, row.id, row.address, row.name.copy()?, tree)?;
     }
     Ok(routes)
 }

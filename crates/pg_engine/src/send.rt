@@ -12,7 +12,7 @@ use pg_disk::Fault;
 use pg_msg::{
     Body, Command, Message, MessageId, Properties, QueueIds, Refusal, Reply, WEIGHT_LIMIT, weight,
 };
-use std::alloc::{AllocError, Global};
+use std::alloc::Global;
 
 impl State {
     // The command `send`. Messages of a transaction and messages with a duplicate id aren't built.
@@ -58,11 +58,10 @@ impl State {
         if weight(&message) >= WEIGHT_LIMIT {
             return Ok(self.refused(Refusal::Size));
         }
-        let numbers = self.routed(id);
-        if numbers.is_empty() {
+        let queues = self.route(alloc, id, &message.properties)?;
+        if queues.as_slice().is_empty() {
             return Ok(self.unchanged(Reply::Unrouted));
         }
-        let queues = queue_ids(alloc, numbers)?;
         if self.drawn >= self.ids {
             return Ok(self.refused(Refusal::Ids));
         }
@@ -85,6 +84,14 @@ fn plain_message(id: MessageId, properties: Properties, body: Octets) -> Message
     }
 }
 
+// The queues with these ids.
+pub(crate) fn queue_ids(ids: Vec<u32>) -> QueueIds
+    ensures same { result ≡ ids.items }
+    ensures in_range { All (λ id. id < 2 ^ 32) ids.items }
+{
+    QueueIds::from_vec(ids)
+}
+
 // The id behind so many that were drawn in the epoch, and some id of it where as many were drawn as it has.
 pub(crate) fn id_after(epoch: u32, drawn: u32, ids: u32) -> MessageId
     requires { 1 ≤ epoch }
@@ -93,12 +100,4 @@ pub(crate) fn id_after(epoch: u32, drawn: u32, ids: u32) -> MessageId
 {
     let number = if drawn < ids { drawn + 1 } else { 1 };
     MessageId { epoch, number }
-}
-
-// The queues with these numbers.
-fn queue_ids(alloc: Global, numbers: &[u32]) -> Result<QueueIds, AllocError>
-    ensures same { IfOk result (λ queues. queues ≡ numbers.now) }
-    ensures in_range { All (λ number. number < 2 ^ 32) numbers.now }
-{
-    Ok(QueueIds::from_vec(Vec::from_slice(alloc, numbers)?))
 }

@@ -1,8 +1,8 @@
 // The state of the broker in memory, and how its parts change together.
-ghost use Rattle.std.specs.Prelude.{◌≡◌, ◌==◌, ◌≢◌, ◌≤◌, ◌<◌, ◌+◌, ◌^◌, ◌↔◌, ◌++◌, ◌∷◌, [], List, ℕ, true, false, All, IsTrue, Some, None, IfOk, IfErr, IfSome, OnOk, is_some, length, option_map};
+ghost use Rattle.std.specs.Prelude.{◌≡◌, ◌==◌, ◌≢◌, ◌≤◌, ◌<◌, ◌+◌, ◌^◌, ◌↔◌, ◌++◌, ◌∷◌, [], List, ℕ, Option, true, false, All, IsTrue, Some, None, IfOk, IfErr, IfSome, OnOk, is_some, length, option_map};
 ghost use Rattle.std.specs.List.{list_any};
 ghost use Rattle.pg_msg.specs.declared.properties.Property.{Property};
-ghost use Rattle.pg_msg.specs.Commands.{AreSettings};
+ghost use Rattle.pg_msg.specs.Commands.{AreSettings, IsFilterText};
 ghost use Rattle.pg_msg.specs.Messages.{IsMessage, IsMessageId};
 ghost use Rattle.pg_msg.specs.Names.{IsName};
 ghost use Rattle.pg_dispatch.specs.Dispatch.{flight_from};
@@ -10,9 +10,12 @@ ghost use Rattle.pg_fold.specs.Rows.{has_holder};
 ghost use Rattle.pg_model.specs.Actions.{Acknowledge, DropQueue, MakeAddress, MakeQueue, Send};
 ghost use Rattle.pg_model.specs.Broker.{address_named, consumer_named, queue_named, queue_with};
 ghost use Rattle.pg_model.specs.Changes.{message_of, next_id, with_flights, without_consumer, without_id};
-ghost use Rattle.pg_model.specs.Refusals.{WouldPage, routed};
+ghost use Rattle.pg_model.specs.Refusals.{WouldPage};
+ghost use Rattle.pg_model.specs.Routing.{IsRouted, queues_of, text_of};
 ghost use Rattle.pg_recover.specs.Recovered.{IsBegun};
 ghost use Rattle.pg_recover.specs.WellFormed.{AreRoomy};
+ghost use Rattle.pg_parse.specs.FilterTexts.{ReadsAs};
+ghost use Rattle.pg_engine.specs.Filters.{IsTreeOf};
 ghost use Rattle.pg_engine.specs.Kept.{HasRoom, IsId, after_giving, broker_of, next_for, view_of, with_consumers};
 ghost use Rattle.pg_engine.specs.Outcomes.{IsOutcome, settings_of};
 
@@ -21,12 +24,13 @@ use crate::lines::{count_in, dispatched, held_message, relief};
 use crate::naming::named_routes;
 use crate::queue::queue_entry;
 use crate::recording::record_entry;
-use crate::send::id_after;
+use crate::send::{id_after, queue_ids};
 use pg_bytes::{Octets, Text};
 use pg_disk::Fault;
 use pg_dispatch::Dispatcher;
 use pg_fold::Durable;
-use pg_msg::{Message, MessageId, QUEUE_ID_LIMIT, QueueIds, Refusal, Reply, weight};
+use pg_msg::{Message, MessageId, Properties, QUEUE_ID_LIMIT, QueueIds, Refusal, Reply, weight};
+use pg_parse::Tree;
 use pg_records::Entry;
 use pg_recover::weights_by_address;
 use pg_routes::Routes;
@@ -168,21 +172,25 @@ impl State {
         })
     }
 
-    // Makes the queue, whose name is new, on the address with that id.
+    // Makes the queue, whose name is new, on the address with that id, with the filter of this text and tree.
     pub(crate) fn make_queue(
         self,
         alloc: Global,
         name: Text,
         address: u32,
+        filter: Text,
+        tree: Option<Tree>,
     ) -> Result<Outcome, Fault>
         requires name { IsName name }
+        requires text { IsFilterText filter }
+        requires read { ReadsAs filter tree }
         requires new { queue_named (broker_of self).durable.queues name ≡ None }
         requires known { IsId (length self.durable.addresses) address }
-        requires few { length (routed (broker_of self) address) < 1000 }
+        requires few { length (queues_of address (broker_of self).durable.queues) < 1000 }
         requires left { self.durable.next < QUEUE_ID_LIMIT }
-        ensures outcome { IfOk result (λ outcome. (at : List ℕ)
-            → address_named (broker_of self).durable.addresses at ≡ Some address
-            → IsOutcome self (Some (MakeQueue name at)) outcome) }
+        ensures outcome { IfOk result (λ outcome. (at : List ℕ) (asked : Option (List ℕ))
+            → address_named (broker_of self).durable.addresses at ≡ Some address → IsTreeOf asked tree
+            → filter ≡ text_of asked → IsOutcome self (Some (MakeQueue name at asked)) outcome) }
         ensures none { IfErr result (λ fault. fault ≡ Fault.Memory) }
     {
         let State {
@@ -195,9 +203,9 @@ impl State {
             ids,
         } = self;
         let queue = durable.next;
-        let entry = queue_entry(alloc, queue, address, name.copy()?)?;
+        let entry = queue_entry(queue, address, name.copy()?, filter);
         let (durable, batch) = record_entry(alloc, durable, entry)?;
-        routes.add_queue(alloc, queue, address, name)?;
+        routes.add_queue(alloc, queue, address, name, tree)?;
         dispatcher.add_queue(alloc, queue)?;
         let state = State {
             durable,
@@ -265,7 +273,7 @@ impl State {
         message: Message,
     ) -> Result<Outcome, Fault>
         requires known { IsId (length self.durable.addresses) address }
-        requires routed { queues ≡ routed (broker_of self) address }
+        requires routed { IsRouted (broker_of self) address message.properties queues }
         requires some { queues ≢ [] }
         requires in_range { All (λ queue. queue < 2 ^ 32) queues }
         requires message { IsMessage message }
@@ -430,11 +438,25 @@ impl State {
         self.routes.queue_id(name.as_str())
     }
 
-    // The ids of the queues that a message to the address goes to.
-    pub(crate) fn routed(&self, address: u32) -> &[u32]
-        ensures { result.now ≡ routed (broker_of self.now) address }
+    // How many queues the address has.
+    pub(crate) fn queue_count(&self, address: u32) -> usize
+        ensures { result ≡ length (queues_of address (broker_of self.now).durable.queues) }
     {
-        self.routes.queues_at(address)
+        self.routes.queues_at(address).len()
+    }
+
+    // The ids of the queues of the address that a message with these properties goes to.
+    pub(crate) fn route(
+        &self,
+        alloc: Global,
+        address: u32,
+        properties: &Properties,
+    ) -> Result<QueueIds, AllocError>
+        ensures routed { IfOk result (λ queues. IsRouted (broker_of self.now) address properties.now queues) }
+        ensures in_range { IfOk result (All (λ queue. queue < 2 ^ 32)) }
+    {
+        let ids = self.routes.route(alloc, address, properties.as_slice())?;
+        Ok(queue_ids(ids))
     }
 
     // Whether a message to the address would be paged: it has a page, or its messages come to its `max`.

@@ -7,6 +7,7 @@ use Rattle.std.proofs.lemmas.List.Quantifiers.{position-Some}
 use Rattle.std.proofs.lemmas.Option.{same_Some}
 use Rattle.pg_disk.specs.Views.{Contents}
 use Rattle.pg_msg.specs.declared.command.Command.{Command}
+use Rattle.pg_msg.specs.declared.properties.Property.{Property}
 use Rattle.pg_msg.specs.declared.reply.Refusal.{Refusal}
 use Rattle.pg_msg.specs.declared.reply.Refusal.TheVariants as refusal
 use Rattle.pg_msg.specs.declared.reply.Reply.{Reply}
@@ -43,8 +44,8 @@ placed_as (a ∷ addresses) name id (Some place) at is =
 is_placed : (addresses : List Address) (name : List ℕ) (id : ℕ) → address_named addresses name ≡ Some id → IsPlaced addresses id
 is_placed addresses name id is = placed_as addresses name id (position (λ a. bytes_eq name a.name) addresses) refl is
 
-wants_same : (s : Broker) (view other : View) → Agree s view other → (name : List ℕ) → WantsPage view s name → WantsPage other s name
-wants_same s view other agree name wants =
+wants_same : (s : Broker) (view other : View) → Agree s view other → (name : List ℕ) (properties : List Property) → WantsPage view s name properties → WantsPage other s name properties
+wants_same s view other agree name properties wants =
     let placed = is_placed s.durable.addresses name wants.0 wants.1 in (
       wants.0,
       wants.1,
@@ -71,11 +72,11 @@ fourth_same a b c P Q word answer there back =
 
 first_same : (s : Broker) (view other : View) → Agree s view other → (action : Action) (answer : Option Refusal) → IsFirst (causes view s action) answer → IsFirst (causes other s action) answer
 first_same s view other agree (MakeAddress name settings) answer is = is
-first_same s view other agree (MakeQueue name address) answer is = is
+first_same s view other agree (MakeQueue name address filter) answer is = is
 first_same s view other agree (DropQueue name) answer is = is
 first_same s view other agree (Send address properties body) answer is =
-    fourth_same (cause (HasAddress s address → ⊥) refusal.Address) (cause (IsHeavy s properties body) refusal.Size) (cause (WantsNumber s address) refusal.Ids) (WantsPage view s address) (WantsPage other s address) refusal.Line answer
-    (wants_same s view other agree address) (wants_same s other view (flipped s view other agree) address) is
+    fourth_same (cause (HasAddress s address → ⊥) refusal.Address) (cause (IsHeavy s properties body) refusal.Size) (cause (WantsNumber s address properties) refusal.Ids) (WantsPage view s address properties)
+    (WantsPage other s address properties) refusal.Line answer (wants_same s view other agree address properties) (wants_same s other view (flipped s view other agree) address properties) is
 first_same s view other agree (Open name on) answer is = is
 first_same s view other agree (Receive consumer) answer is = is
 first_same s view other agree (Acknowledge consumer id) answer is = is

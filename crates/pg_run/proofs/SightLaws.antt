@@ -1,5 +1,5 @@
 -- What is seen beside pages is one view of each address.
-use Rattle.std.proofs.Common.{◌≡◌, ◌≢◌, inl, inr, ℕ, suc, ◌-◌, ◌≤◌, ◌<◌, ◌==◌, ◌↔◌, Bool, true, false, not, cond, List, [], ◌∷◌, ◌++◌, length, map, get_or, Option, Some, None, is_none, refl, sym, ◌∙◌, ap, subst, arith, eqb-true}
+use Rattle.std.proofs.Common.{◌≡◌, ◌≢◌, inl, inr, ℕ, suc, ◌-◌, ◌≤◌, ◌<◌, ◌==◌, ◌↔◌, Bool, true, false, not, List, [], ◌∷◌, ◌++◌, length, map, get_or, Some, refl, sym, ◌∙◌, ap, subst, arith, eqb-true}
 use Rattle.std.specs.Prelude.{◌&&◌, ◌||◌, All, filter, sum_by}
 use Rattle.std.specs.List.{AllPairs, Contains, list_all, list_any}
 use Rattle.std.proofs.lemmas.Bool.{and_from, and_parts, both_ways, cases_Bool, cases_order, eq-eqb}
@@ -8,7 +8,6 @@ use Rattle.std.proofs.lemmas.List.{get_or-map, length-map}
 use Rattle.std.proofs.lemmas.List.Elements.{All-contains, All-nil, All-push, at_from_Contains, Contains-append_cases, Contains-append_left, Contains-append_right}
 use Rattle.std.proofs.lemmas.List.Kept.{AllPairs-filter}
 use Rattle.std.proofs.lemmas.List.Sums.{sum_by-append, sum_by-cons}
-use Rattle.std.proofs.lemmas.Option.{same_Some}
 use Rattle.pg_disk.specs.Views.{Contents}
 use Rattle.pg_msg.specs.declared.message.Message.{Message}
 use Rattle.pg_msg.specs.declared.message.MessageId.{MessageId}
@@ -21,7 +20,7 @@ use Rattle.pg_fold.specs.declared.durable.Durable.{Durable as Folded}
 use Rattle.pg_fold.specs.declared.rows.AddressRow.{AddressRow}
 use Rattle.pg_fold.specs.declared.rows.JournaledRow.{JournaledRow}
 use Rattle.pg_fold.specs.declared.rows.QueueRow.{QueueRow}
-use Rattle.pg_fold.specs.Fold.{changed, fold, fresh, rule_of}
+use Rattle.pg_fold.specs.Fold.{Folds, changed, fresh}
 use Rattle.pg_fold.specs.Rows.{AreAscending, has_number, has_queue_at, same_id}
 use Rattle.pg_fold.specs.Sound.{IsHeldRow, IsSound}
 use Rattle.pg_fold.proofs.SoundLaws.{sound_folded}
@@ -209,13 +208,10 @@ firsts_changed d (entry.LargeAck queue message) are = are
 firsts_changed d (entry.FirstPage address page) are = are
 firsts_changed d (entry.AckRun queue page start end) are = are
 
-applied : (b : Bool) (rest : Option Folded) (e : Folded) → cond b rest None ≡ Some e → rest ≡ Some e
-applied true rest e is = is
-applied false rest e is = cc
-
-firsts_are : (d e : Folded) (entries : List Entry) → All (λ row. row.first ≡ 1) d.addresses → fold d entries ≡ Some e → All (λ row. row.first ≡ 1) e.addresses
-firsts_are d e [] are is = subst (λ (s : Folded). All (λ row. row.first ≡ 1) s.addresses) (same_Some d e is) are
-firsts_are d e (x ∷ entries) are is = firsts_are (changed d x) e entries (firsts_changed d x are) (applied (is_none (rule_of d x)) (fold (changed d x) entries) e is)
+firsts_are : (d e : Folded) (entries : List Entry) → All (λ row. row.first ≡ 1) d.addresses → Folds d entries e → All (λ row. row.first ≡ 1) e.addresses
+firsts_are d e [] are is = subst (λ (s : Folded). All (λ row. row.first ≡ 1) s.addresses) (sym is) are
+firsts_are d e (x ∷ entries) are folds =
+    firsts_are folds.0 e entries (subst (λ (s : Folded). All (λ row. row.first ≡ 1) s.addresses) (sym folds.1.effect) (firsts_changed d x are)) folds.2
 
 -- ---- the view of an address
 -- what is seen of an address, in words of the pages

@@ -1,6 +1,6 @@
-use Rattle.std.proofs.Common.{◌≡◌, map, take}
-use Rattle.pg_engine.specs.Kept.{name_of_queue}
+use Rattle.std.proofs.Common.{take}
+use Rattle.pg_engine.specs.Kept.{AreNamed}
 use Rattle.pg_engine.proofs.naming.name_queues.Given as goal
 
 abbrev pub invariant-loop-row : goal.invariant-loop-row
-invariant-loop-row l = l.routes ≡ record { addresses = l.fn.routes.addresses; queues = map name_of_queue (take l.row-index l.queues) }
+invariant-loop-row l = AreNamed l.fn.routes.addresses (take l.row-index l.queues) l.routes

@@ -1,9 +1,8 @@
-use Rattle.std.proofs.Common.{◌≡◌, ◌∙◌, List, [], map, ap, subst, IfOk}
+use Rattle.std.proofs.Common.{◌∙◌, List, ap, subst, IfOk}
 use Rattle.std.proofs.lemmas.List.{take_all}
-use Rattle.pg_fold.specs.declared.rows.AddressRow.{AddressRow}
 use Rattle.pg_routes.specs.Names.{AddressName, RouteNames}
-use Rattle.pg_engine.specs.Kept.{name_of_queue, names_of_rows}
-use Rattle.pg_engine.proofs.NamingLemmas.{more_address, new_address_id, new_address_name}
+use Rattle.pg_engine.specs.Kept.{AreNamed}
+use Rattle.pg_engine.proofs.NamingLemmas.{addresses_alone, more_address, new_address_id, new_address_name}
 use Rattle.pg_engine.proofs.naming.named_routes.Goals as goal
 
 pub add_address-requires-clause-new_id : goal.add_address-requires-clause-new_id
@@ -21,5 +20,5 @@ loop-row-preserved c =
 
 pub returns : goal.returns
 returns c =
-    let all = c.loop-row.invariant ∙ ap (λ (l : List AddressRow). names_of_rows l []) (take_all c.loop-row.row-index c.args.addresses.now c.loop-row-test.false) in
-    subst (λ (l : List AddressName). IfOk c.name_queues.result (λ named. named ≡ record { addresses = l; queues = map name_of_queue c.args.queues.now })) (ap (λ (r : RouteNames). r.addresses) all) c.name_queues.ensures
+    let all = c.loop-row.invariant ∙ ap addresses_alone (take_all c.loop-row.row-index c.args.addresses.now c.loop-row-test.false) in
+    subst (λ (l : List AddressName). IfOk c.name_queues.result (AreNamed l c.args.queues.now)) (ap (λ (r : RouteNames). r.addresses) all) c.name_queues.ensures

@@ -49,6 +49,11 @@ pub returns-in-Unchanged-clause-limit_met : goal.returns-in-Unchanged-clause-lim
 returns-in-Unchanged-clause-limit_met g c meets =
     absurd (kept_within c.args.self c.in-Unchanged.state c.args.command c.in-Unchanged.reply c.in_ok-state.field-0 c.in-Unchanged.is c.in_ok-state.ensures.outcome meets)
 
+pub returns-in_ok-journal-in-Changed-clause-limit_met : goal.returns-in_ok-journal-in-Changed-clause-limit_met
+returns-in_ok-journal-in-Changed-clause-limit_met g c meets =
+    absurd (changed_within c.args.self c.in-Changed.state c.args.command c.in-Changed.batch c.in-Changed.reply c.in_ok-state.field-0 c.in-Changed.is c.in_ok-state.ensures.outcome
+    (λ full. let spent = c.in_ok-journal-in-Changed.ensures.spent.1 full in cc) meets)
+
 -- an error that is passed on is the one that came
 same_error : {T : Type 0} (e f : Fault) → ◌≡◌ {A = Result T Fault} (Err e) (Err f) → e ≡ f
 same_error e f is = cc

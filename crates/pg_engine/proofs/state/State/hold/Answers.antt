@@ -1,5 +1,7 @@
 use Rattle.std.proofs.Common.{◌≡◌, false, Some, ℕ, ◌+◌, ◌∙◌, ◌≤◌, min, List, length, ap, sym, subst, refl, arith}
+use Rattle.pg_msg.specs.declared.message.Message.{Message}
 use Rattle.pg_msg.specs.declared.message.MessageId.{MessageId}
+use Rattle.pg_msg.specs.declared.properties.Property.{Property}
 use Rattle.pg_msg.specs.declared.reply.Reply.TheVariants.{Sent}
 use Rattle.pg_msg.specs.Messages.{weight_of}
 use Rattle.pg_model.specs.Actions.{Send}
@@ -8,7 +10,8 @@ use Rattle.std.proofs.lemmas.List.Elements.{recursion_from_All}
 use Rattle.pg_fold.specs.Rows.{same_id}
 use Rattle.pg_model.specs.Broker.{IsDrawn, address_named}
 use Rattle.pg_model.specs.Changes.{message_of, next_id}
-use Rattle.pg_model.specs.Refusals.{WouldPage, routed}
+use Rattle.pg_model.specs.Refusals.{WouldPage}
+use Rattle.pg_model.specs.Routing.{IsRouted}
 use Rattle.pg_recover.specs.Denotation.{weight_at}
 use Rattle.pg_engine.specs.declared.state.Outcome.TheVariants.{Changed}
 use Rattle.pg_engine.specs.Kept.{Kept, HasRoom, IsId, broker_of, view_of}
@@ -17,7 +20,6 @@ use Rattle.pg_engine.proofs.EntryLemmas.{add_condition, add_fields, new_everywhe
 use Rattle.pg_dispatch.specs.Dispatch.{Dispatch, has_in_lines, with_message}
 use Rattle.pg_engine.proofs.FitLemmas.{new_weight, with_message_fit}
 use Rattle.pg_engine.proofs.LineLemmas.{in_no_line, lined_message}
-use Rattle.pg_engine.proofs.LookupLemmas.{ids_at, routed_rows}
 use Rattle.pg_engine.proofs.StepLemmas.{send_made}
 use Rattle.pg_engine.proofs.state.State.hold.Goals as goal
 
@@ -27,10 +29,10 @@ record_entry-requires-clause-condition c =
     let d = i.durable in
     let m = c.args.message in
     let known : IsId (length d.addresses) c.args.address = subst (λ (k : Kept). IsId (length k.durable.addresses) c.args.address) (sym c.self.view_is) c.requires.known in
-    let to : c.args.queues ≡ ids_at c.args.address d.queues = c.requires.routed ∙ ap (λ (k : Kept). routed (broker_of k) c.args.address) (sym c.self.view_is) ∙ routed_rows c.args.address d.journaled d.queues in
+    let to = subst (λ (k : Kept). IsRouted (broker_of k) c.args.address m.properties c.args.queues) (sym c.self.view_is) c.requires.routed in
     let id : m.id ≡ record { epoch = d.epoch; number = i.drawn + 1 } = c.requires.next ∙ ap (λ (k : Kept). next_id (broker_of k)) (sym c.self.view_is) in
-    let condition = add_condition d c.args.address i.drawn c.args.queues m c.self.invariant.sound to id c.self.invariant.drawn_all known.0 known.1 in
-    let fields = add_fields d c.args.address i.drawn c.args.queues m c.self.invariant.sound to id c.requires.message c.requires.in_range c.requires.some known.1 in
+    let condition = add_condition d c.args.address i.drawn m.properties c.args.queues m c.self.invariant.sound to id c.self.invariant.drawn_all known.0 known.1 in
+    let fields = add_fields d c.args.address i.drawn m.properties c.args.queues m c.self.invariant.sound to id c.requires.message c.requires.in_range c.requires.some known.1 in
     condition
 
 pub record_entry-requires-clause-fields : goal.record_entry-requires-clause-fields
@@ -39,10 +41,10 @@ record_entry-requires-clause-fields c =
     let d = i.durable in
     let m = c.args.message in
     let known : IsId (length d.addresses) c.args.address = subst (λ (k : Kept). IsId (length k.durable.addresses) c.args.address) (sym c.self.view_is) c.requires.known in
-    let to : c.args.queues ≡ ids_at c.args.address d.queues = c.requires.routed ∙ ap (λ (k : Kept). routed (broker_of k) c.args.address) (sym c.self.view_is) ∙ routed_rows c.args.address d.journaled d.queues in
+    let to = subst (λ (k : Kept). IsRouted (broker_of k) c.args.address m.properties c.args.queues) (sym c.self.view_is) c.requires.routed in
     let id : m.id ≡ record { epoch = d.epoch; number = i.drawn + 1 } = c.requires.next ∙ ap (λ (k : Kept). next_id (broker_of k)) (sym c.self.view_is) in
-    let condition = add_condition d c.args.address i.drawn c.args.queues m c.self.invariant.sound to id c.self.invariant.drawn_all known.0 known.1 in
-    let fields = add_fields d c.args.address i.drawn c.args.queues m c.self.invariant.sound to id c.requires.message c.requires.in_range c.requires.some known.1 in
+    let condition = add_condition d c.args.address i.drawn m.properties c.args.queues m c.self.invariant.sound to id c.self.invariant.drawn_all known.0 known.1 in
+    let fields = add_fields d c.args.address i.drawn m.properties c.args.queues m c.self.invariant.sound to id c.requires.message c.requires.in_range c.requires.some known.1 in
     fields
 
 pub invariant_of-state : goal.invariant_of-state
@@ -51,10 +53,10 @@ invariant_of-state c =
     let d = i.durable in
     let m = c.args.message in
     let known : IsId (length d.addresses) c.args.address = subst (λ (k : Kept). IsId (length k.durable.addresses) c.args.address) (sym c.self.view_is) c.requires.known in
-    let to : c.args.queues ≡ ids_at c.args.address d.queues = c.requires.routed ∙ ap (λ (k : Kept). routed (broker_of k) c.args.address) (sym c.self.view_is) ∙ routed_rows c.args.address d.journaled d.queues in
+    let to = subst (λ (k : Kept). IsRouted (broker_of k) c.args.address m.properties c.args.queues) (sym c.self.view_is) c.requires.routed in
     let id : m.id ≡ record { epoch = d.epoch; number = i.drawn + 1 } = c.requires.next ∙ ap (λ (k : Kept). next_id (broker_of k)) (sym c.self.view_is) in
-    let condition = add_condition d c.args.address i.drawn c.args.queues m c.self.invariant.sound to id c.self.invariant.drawn_all known.0 known.1 in
-    let fields = add_fields d c.args.address i.drawn c.args.queues m c.self.invariant.sound to id c.requires.message c.requires.in_range c.requires.some known.1 in
+    let condition = add_condition d c.args.address i.drawn m.properties c.args.queues m c.self.invariant.sound to id c.self.invariant.drawn_all known.0 known.1 in
+    let fields = add_fields d c.args.address i.drawn m.properties c.args.queues m c.self.invariant.sound to id c.requires.message c.requires.in_range c.requires.some known.1 in
     let room : HasRoom d c.args.address = subst (λ (k : Kept). HasRoom k.durable c.args.address) (sym c.self.view_is) c.requires.room in
     let light : weight_of m ≤ 102399 = omega (arith, c.requires.message.light) in
     let heavier : c.saturating_add.result ≡ weight_at c.args.address d.journaled + weight_of m =
@@ -69,10 +71,10 @@ returns-clause-outcome c name properties body named made unpaged =
     let d = i.durable in
     let m = c.args.message in
     let known : IsId (length d.addresses) c.args.address = subst (λ (k : Kept). IsId (length k.durable.addresses) c.args.address) (sym c.self.view_is) c.requires.known in
-    let to : c.args.queues ≡ ids_at c.args.address d.queues = c.requires.routed ∙ ap (λ (k : Kept). routed (broker_of k) c.args.address) (sym c.self.view_is) ∙ routed_rows c.args.address d.journaled d.queues in
+    let to = subst (λ (k : Kept). IsRouted (broker_of k) c.args.address m.properties c.args.queues) (sym c.self.view_is) c.requires.routed in
     let id : m.id ≡ record { epoch = d.epoch; number = i.drawn + 1 } = c.requires.next ∙ ap (λ (k : Kept). next_id (broker_of k)) (sym c.self.view_is) in
-    let condition = add_condition d c.args.address i.drawn c.args.queues m c.self.invariant.sound to id c.self.invariant.drawn_all known.0 known.1 in
-    let fields = add_fields d c.args.address i.drawn c.args.queues m c.self.invariant.sound to id c.requires.message c.requires.in_range c.requires.some known.1 in
+    let condition = add_condition d c.args.address i.drawn m.properties c.args.queues m c.self.invariant.sound to id c.self.invariant.drawn_all known.0 known.1 in
+    let fields = add_fields d c.args.address i.drawn m.properties c.args.queues m c.self.invariant.sound to id c.requires.message c.requires.in_range c.requires.some known.1 in
     let room : HasRoom d c.args.address = subst (λ (k : Kept). HasRoom k.durable c.args.address) (sym c.self.view_is) c.requires.room in
     let light : weight_of m ≤ 102399 = omega (arith, c.requires.message.light) in
     let s : Kept = record { durable = d; drawn = i.drawn; ids = i.ids; paged = i.paged.items; consumers = i.dispatcher.consumers } in
@@ -83,8 +85,8 @@ returns-clause-outcome c name properties body named made unpaged =
     subst (λ (k : Kept). IsOutcome k (Some (Send name properties body)) (Changed t c.in_ok-durable.batch (Sent m.id))) c.self.view_is
     (subst (λ (x : MessageId). IsOutcome s (Some (Send name properties body)) (Changed t c.in_ok-durable.batch (Sent x))) (sym id)
     (send_made s name properties body c.args.address (ap (λ (k : Kept). address_named (broker_of k).durable.addresses name) c.self.view_is ∙ named) (λ heavy. omega (arith, light, heavy, ap weight_of is))
-    (omega (arith, c.requires.left, ap (λ (k : Kept). k.drawn) c.self.view_is, ap (λ (k : Kept). k.ids) c.self.view_is)) c.args.queues m t c.in_ok-durable.batch is
-    (c.requires.routed ∙ ap (λ (k : Kept). routed (broker_of k) c.args.address) (sym c.self.view_is)) c.requires.some
+    c.args.queues (subst (λ (p : List Property). IsRouted (broker_of s) c.args.address p c.args.queues) (ap (λ (x : Message). x.properties) is) to)
+    (omega (arith, c.requires.left, ap (λ (k : Kept). k.drawn) c.self.view_is, ap (λ (k : Kept). k.ids) c.self.view_is)) m t c.in_ok-durable.batch is c.requires.some
     (λ paged. unpaged (subst (λ (k : Kept). WouldPage (view_of k) (broker_of k) c.args.address) c.self.view_is paged)) condition fields c.in_ok-durable.ensures.changed refl refl (ap (λ (x : Dispatch). x.consumers) c.in_ok-add.ensures) refl c.in_ok-durable.ensures.batch fit.roomy))
 
 pub add-requires : goal.add-requires

@@ -9,7 +9,7 @@ use Rattle.pg_fold.specs.Fold.{changed, rule_of}
 use Rattle.pg_model.specs.Actions.{MakeAddress}
 use Rattle.pg_model.specs.Broker.{address_named}
 use Rattle.pg_recover.specs.Denotation.{address_of}
-use Rattle.pg_routes.specs.Names.{has_address, with_address}
+use Rattle.pg_routes.specs.Names.{with_address}
 use Rattle.pg_routes.specs.Names.{address_named as name_of}
 use Rattle.pg_engine.specs.declared.state.Outcome.TheVariants.{Changed}
 use Rattle.pg_engine.specs.Kept.{Kept, broker_of}
@@ -38,13 +38,12 @@ record_entry-requires-clause-condition c =
 pub add_address-requires-clause-new_id : goal.add_address-requires-clause-new_id
 add_address-requires-clause-new_id c =
     let d = c.self.inside.durable in
-    ap (has_address (length c.as_slice.result.now + 1)) c.self.invariant.named
-    ∙ no_address_id d (length c.as_slice.result.now + 1) c.self.invariant.sound (ap (λ (l : List AddressRow). length l + 1) c.as_slice.ensures)
+    no_address_id d (length c.as_slice.result.now + 1) c.self.inside.routes c.self.invariant.sound (ap (λ (l : List AddressRow). length l + 1) c.as_slice.ensures) c.self.invariant.named
 
 pub add_address-requires-clause-new_name : goal.add_address-requires-clause-new_name
 add_address-requires-clause-new_name c =
     let d = c.self.inside.durable in
-    ap (name_of c.args.name) c.self.invariant.named ∙ address_found c.args.name d.addresses c.self.invariant.sound.addresses.numbered
+    ap (name_of c.args.name) c.self.invariant.named.named ∙ address_found c.args.name d.addresses c.self.invariant.sound.addresses.numbered
     ∙ ap (λ (k : Kept). address_named (broker_of k).durable.addresses c.args.name) c.self.view_is ∙ c.requires.new
 
 pub invariant_of-state : goal.invariant_of-state

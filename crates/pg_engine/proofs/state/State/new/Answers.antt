@@ -1,10 +1,11 @@
-use Rattle.std.proofs.Common.{◌≢◌, List, length, map, sym, subst, ◌∙◌, ap, AllPairs}
+use Rattle.std.proofs.Common.{◌≢◌, All, List, length, map, sym, subst, ◌∙◌, ap, AllPairs}
 use Rattle.pg_fold.specs.declared.rows.AddressRow.{AddressRow}
 use Rattle.pg_fold.specs.declared.rows.QueueRow.{QueueRow}
 use Rattle.pg_fold.specs.Rows.{AreAscending}
 use Rattle.pg_dispatch.specs.Dispatch.{Dispatch}
 use Rattle.pg_recover.specs.Denotation.{queue_of}
-use Rattle.pg_engine.specs.Kept.{line_from, names_of_rows}
+use Rattle.pg_parse.specs.FilterTexts.{IsReadable}
+use Rattle.pg_engine.specs.Kept.{AreRoutesOf, line_from}
 use Rattle.pg_engine.proofs.OpenedState.{begun_sound, opened_fit}
 use Rattle.pg_engine.proofs.WeightLemmas.{weights_are}
 use Rattle.pg_engine.proofs.state.State.new.Goals as goal
@@ -20,7 +21,8 @@ pub invariant_of-result : goal.invariant_of-result
 invariant_of-result c =
     let d = c.args.durable in
     opened_fit d c.in_ok-routes.routes c.in_ok-weights.weights.items c.in_ok-dispatcher.dispatcher.lines c.args.paged.items c.requires.begun c.requires.roomy
-    (c.in_ok-routes.ensures ∙ (λ j. names_of_rows (c.as_slice-addresses.ensures j) (c.as_slice-queues.ensures j)))
+    (subst (λ (l : List AddressRow). AreRoutesOf l d.queues c.in_ok-routes.routes) c.as_slice-addresses.ensures
+    (subst (λ (l : List QueueRow). AreRoutesOf c.as_slice-addresses.result.now l c.in_ok-routes.routes) c.as_slice-queues.ensures c.in_ok-routes.ensures))
     (weights_are d c.in_ok-weights.weights.items (begun_sound d c.requires.begun).addresses c.requires.roomy
     (c.in_ok-weights.ensures.count ∙ ap (λ (l : List AddressRow). length l) c.as_slice-addresses.ensures)
     c.in_ok-weights.ensures.each)
@@ -31,3 +33,6 @@ dispatched-requires-clause-ascending c = subst AreAscending (sym c.as_slice-queu
 
 pub dispatched-requires-clause-apart : goal.dispatched-requires-clause-apart
 dispatched-requires-clause-apart c = (begun_sound c.args.durable c.requires.begun).messages.ids
+
+pub named_routes-requires-clause-filters : goal.named_routes-requires-clause-filters
+named_routes-requires-clause-filters c = subst (λ (l : List QueueRow). All (λ row. IsReadable row.filter) l) (sym c.as_slice-queues.ensures) (begun_sound c.args.durable c.requires.begun).queues.readable

@@ -13,8 +13,8 @@ pub returns-clause-id : goal.returns-clause-id
 returns-clause-id c =
     let d = c.self.inside.durable in
     c.queue_id.ensures ∙ ap (λ t. name_of t c.self.inside.routes) c.as_str.ensures.value
-    ∙ ap (λ (n : RouteNames). name_of c.args.name.now n) c.self.invariant.named
-    ∙ queue_found c.args.name.now d.journaled d.queues
+    ∙ ap (λ (n : RouteNames). name_of c.args.name.now n) c.self.invariant.named.named
+    ∙ queue_found c.args.name.now d.journaled d.queues c.self.invariant.named.trees
     ∙ ap (λ (k : Kept). option_map (λ (q : Queue). q.id) (queue_named (broker_of k).durable.queues c.args.name.now)) c.self.view_is
 
 pub returns-clause-live : goal.returns-clause-live
@@ -23,5 +23,5 @@ returns-clause-live c =
     subst (λ (k : Kept). IfSome c.queue_id.result (λ queue. is_some (queue_with (broker_of k).durable.queues queue) ≡ true)) c.self.view_is
     (live_by_name d c.args.name.now c.queue_id.result c.self.invariant.sound
     (c.queue_id.ensures ∙ ap (λ t. name_of t c.self.inside.routes) c.as_str.ensures.value
-    ∙ ap (λ (n : RouteNames). name_of c.args.name.now n) c.self.invariant.named
-    ∙ queue_found c.args.name.now d.journaled d.queues))
+    ∙ ap (λ (n : RouteNames). name_of c.args.name.now n) c.self.invariant.named.named
+    ∙ queue_found c.args.name.now d.journaled d.queues c.self.invariant.named.trees))

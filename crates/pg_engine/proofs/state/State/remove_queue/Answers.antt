@@ -46,7 +46,7 @@ weights_by_address-requires c =
     let condition = drop_condition d asks.0 c.args.queue found in
     let fields : HasFields (entry.DropQueue c.args.queue) = omega (arith, c.ranges.queue.fits) in
     let effect = c.in_ok-durable.ensures.changed in
-    let sound : IsSound c.in_ok-durable.durable = sound_kept d c.in_ok-durable.durable (entry.DropQueue c.args.queue) c.self.invariant.sound fields (record { condition = condition; effect = effect }) in
+    let sound : IsSound c.in_ok-durable.durable = sound_kept d c.in_ok-durable.durable (entry.DropQueue c.args.queue) c.self.invariant.sound fields (record { condition = condition; readable = tt; effect = effect }) in
     All-weaker (λ (row : JournaledRow). IsMessage row.message) (λ row. HasMessageFields row.message) (λ row is. is.fields) c.in_ok-durable.durable.journaled sound.messages.messages
 
 pub invariant_of-state : goal.invariant_of-state
@@ -58,7 +58,7 @@ invariant_of-state c =
     let condition = drop_condition d asks.0 c.args.queue found in
     let fields : HasFields (entry.DropQueue c.args.queue) = omega (arith, c.ranges.queue.fits) in
     let effect = c.in_ok-durable.ensures.changed in
-    let sound : IsSound c.in_ok-durable.durable = sound_kept d c.in_ok-durable.durable (entry.DropQueue c.args.queue) c.self.invariant.sound fields (record { condition = condition; effect = effect }) in
+    let sound : IsSound c.in_ok-durable.durable = sound_kept d c.in_ok-durable.durable (entry.DropQueue c.args.queue) c.self.invariant.sound fields (record { condition = condition; readable = tt; effect = effect }) in
     without_queue_fit d c.in_ok-durable.durable i.routes c.drop_queue.new.self i.weights.items c.in_ok-weights.weights.items i.dispatcher.lines c.drop_queue-2.new.self.lines i.paged.items i.drawn c.args.queue c.self.invariant condition fields effect c.drop_queue.ensures
     (weights_are c.in_ok-durable.durable c.in_ok-weights.weights.items sound.addresses (subst (λ (x : Durable). AreRoomy x) (sym effect) (roomy_left d c.args.queue c.self.invariant.roomy))
     (c.in_ok-weights.ensures.count ∙ ap (λ (l : List AddressRow). length l) c.as_slice-count.ensures)

@@ -1,17 +1,23 @@
-use Rattle.std.proofs.Common.{◌≢◌, Some, ℕ, ◌^◌, ◌∙◌, ◌<◌, List, [], length, All, ap, sym, subst, arith}
+use Rattle.std.proofs.Common.{◌≡◌, ◌≢◌, Some, ℕ, ◌∙◌, List, [], length, ap, sym, subst, arith}
 use Rattle.std.proofs.lemmas.Bool.{both_ways}
 use Rattle.pg_msg.specs.declared.message.Message.{Message}
 use Rattle.pg_msg.specs.declared.message.MessageId.{MessageId}
+use Rattle.pg_msg.specs.declared.properties.Property.{Property}
 use Rattle.pg_msg.specs.Messages.{HasFields, weight_of}
 use Rattle.pg_model.specs.Actions.{Send}
 use Rattle.pg_model.specs.Changes.{message_of, next_id}
-use Rattle.pg_model.specs.Refusals.{routed}
+use Rattle.pg_model.specs.Broker.{Broker}
+use Rattle.pg_model.specs.Routing.{IsRouted}
 use Rattle.pg_engine.specs.Kept.{Kept, broker_of}
 use Rattle.pg_engine.specs.Outcomes.{IsOutcome}
 use Rattle.pg_engine.proofs.LookupLemmas.{address_id_within}
 use Rattle.pg_engine.proofs.StepLemmas.{none_in, send_heavy, send_nowhere, send_numberless, send_paged, send_unrouted, sent_at, some_in}
 use Rattle.pg_engine.proofs.WeightLemmas.{body_within, room_left, weight_any}
 use Rattle.pg_engine.proofs.state.State.send.Goals as goal
+
+-- the message that was made has the properties that were given
+routed_by : (b : Broker) (address : ℕ) (queues : List ℕ) (made : Message) (id : MessageId) (properties : List Property) (body : List ℕ) → IsRouted b address made.properties queues → made ≡ message_of id properties body → IsRouted b address properties queues
+routed_by b address queues made id properties body routed is = subst (λ (m : Message). IsRouted b address m.properties queues) is routed
 
 pub returns-in_default-clause-outcome : goal.returns-in_default-clause-outcome
 returns-in_default-clause-outcome c =
@@ -42,24 +48,27 @@ returns-then-is_empty-clause-outcome c =
     subst (λ o. IsOutcome c.args.self (Some (Send c.args.address c.args.properties c.args.body)) o) (sym c.unchanged.ensures)
     (send_unrouted c.args.self c.args.address c.args.properties c.args.body c.in-Some.id (sym c.address_id.ensures ∙ c.in-Some.is)
     (λ heavy. omega (arith, heavy, same, c.if-weight-ge-WEIGHT_LIMIT.false, c.weight.ensures, ap weight_of c.plain_message-message.ensures))
-    (sym (none_in c.routed-numbers.result.now (sym c.is_empty.ensures ∙ c.if-is_empty.true)) ∙ c.routed-numbers.ensures))
+    c.in_ok-queues.queues (routed_by (broker_of c.args.self) c.in-Some.id c.in_ok-queues.queues c.plain_message-message.result c.next_id.result c.args.properties c.args.body c.in_ok-queues.ensures.routed c.plain_message-message.ensures)
+    (sym c.as_slice-2.ensures.value ∙ none_in c.as_slice-2.result.now (sym c.is_empty.ensures ∙ c.if-is_empty.true)))
 
 pub returns-then-self-clause-outcome : goal.returns-then-self-clause-outcome
 returns-then-self-clause-outcome c =
     let same = weight_any c.next_id.result (next_id (broker_of c.args.self)) c.args.properties c.args.body in
-    let some : routed (broker_of c.args.self) c.in-Some.id ≢ [] = subst (λ (l : List ℕ). l ≢ []) c.routed-numbers.ensures (some_in c.routed-numbers.result.now (sym c.is_empty.ensures ∙ c.if-is_empty.false)) in
+    let some = subst (λ (l : List ℕ). l ≢ []) c.as_slice-2.ensures.value (some_in c.as_slice-2.result.now (sym c.is_empty.ensures ∙ c.if-is_empty.false)) in
     subst (λ o. IsOutcome c.args.self (Some (Send c.args.address c.args.properties c.args.body)) o) (sym c.refused-then-self.ensures)
     (send_numberless c.args.self c.args.address c.args.properties c.args.body c.in-Some.id (sym c.address_id.ensures ∙ c.in-Some.is)
-    (λ heavy. omega (arith, heavy, same, c.if-weight-ge-WEIGHT_LIMIT.false, c.weight.ensures, ap weight_of c.plain_message-message.ensures)) some
+    (λ heavy. omega (arith, heavy, same, c.if-weight-ge-WEIGHT_LIMIT.false, c.weight.ensures, ap weight_of c.plain_message-message.ensures))
+    c.in_ok-queues.queues (routed_by (broker_of c.args.self) c.in-Some.id c.in_ok-queues.queues c.plain_message-message.result c.next_id.result c.args.properties c.args.body c.in_ok-queues.ensures.routed c.plain_message-message.ensures) some
     (omega (arith, c.if-self.true, ap (λ (k : Kept). k.drawn) c.self.view_is, ap (λ (k : Kept). k.ids) c.self.view_is)))
 
 pub returns-then-would_page-clause-outcome : goal.returns-then-would_page-clause-outcome
 returns-then-would_page-clause-outcome c =
     let same = weight_any c.next_id.result (next_id (broker_of c.args.self)) c.args.properties c.args.body in
-    let some : routed (broker_of c.args.self) c.in-Some.id ≢ [] = subst (λ (l : List ℕ). l ≢ []) c.routed-numbers.ensures (some_in c.routed-numbers.result.now (sym c.is_empty.ensures ∙ c.if-is_empty.false)) in
+    let some = subst (λ (l : List ℕ). l ≢ []) c.as_slice-2.ensures.value (some_in c.as_slice-2.result.now (sym c.is_empty.ensures ∙ c.if-is_empty.false)) in
     subst (λ o. IsOutcome c.args.self (Some (Send c.args.address c.args.properties c.args.body)) o) (sym c.refused-then-would_page.ensures)
     (send_paged c.args.self c.args.address c.args.properties c.args.body c.in-Some.id (sym c.address_id.ensures ∙ c.in-Some.is)
     (λ heavy. omega (arith, heavy, same, c.if-weight-ge-WEIGHT_LIMIT.false, c.weight.ensures, ap weight_of c.plain_message-message.ensures))
+    c.in_ok-queues.queues (routed_by (broker_of c.args.self) c.in-Some.id c.in_ok-queues.queues c.plain_message-message.result c.next_id.result c.args.properties c.args.body c.in_ok-queues.ensures.routed c.plain_message-message.ensures)
     (omega (arith, c.if-self.false, ap (λ (k : Kept). k.drawn) c.self.view_is, ap (λ (k : Kept). k.ids) c.self.view_is)) some (c.would_page.ensures.0 c.if-would_page.true))
 
 pub would_page-requires : goal.would_page-requires
@@ -69,13 +78,13 @@ pub hold-requires-clause-known : goal.hold-requires-clause-known
 hold-requires-clause-known c = address_id_within c.args.address c.args.self.durable.addresses c.in-Some.id (sym c.address_id.ensures ∙ c.in-Some.is)
 
 pub hold-requires-clause-routed : goal.hold-requires-clause-routed
-hold-requires-clause-routed c = c.in_ok-queues.ensures.same ∙ c.routed-numbers.ensures
+hold-requires-clause-routed c = c.in_ok-queues.ensures.routed
 
 pub hold-requires-clause-some : goal.hold-requires-clause-some
-hold-requires-clause-some c = subst (λ (l : List ℕ). l ≢ []) (sym c.in_ok-queues.ensures.same) (some_in c.routed-numbers.result.now (sym c.is_empty.ensures ∙ c.if-is_empty.false))
+hold-requires-clause-some c = subst (λ (l : List ℕ). l ≢ []) c.as_slice-2.ensures.value (some_in c.as_slice-2.result.now (sym c.is_empty.ensures ∙ c.if-is_empty.false))
 
 pub hold-requires-clause-in_range : goal.hold-requires-clause-in_range
-hold-requires-clause-in_range c = subst (λ (l : List ℕ). All (λ (n : ℕ). n < 2 ^ 32) l) (sym c.in_ok-queues.ensures.same) c.queue_ids.ensures.in_range
+hold-requires-clause-in_range c = c.in_ok-queues.ensures.in_range
 
 pub hold-requires-clause-message : goal.hold-requires-clause-message
 hold-requires-clause-message c = record {
