@@ -1,3 +1,4 @@
 mod KeptLemmas
 mod PlaceLemmas
 mod StepLemmas
+mod Taking

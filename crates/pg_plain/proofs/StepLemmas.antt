@@ -1,5 +1,6 @@
 -- Each refusal, and what needs more than a case.
 use Rattle.std.proofs.Common.{◌≡◌, ◌≢◌, refl, sym, ap, subst, ◌∙◌, ℕ, ◌<◌, ◌≤◌, true, false, eqb, ◌==◌, List, [], ◌∷◌, length, Option, Some, None, option_map, is_some, MatchOption, inl, inr, arith}
+use Rattle.std.specs.Prelude.{Result, Ok, Err, IfOk}
 use Rattle.std.specs.List.{list_any}
 use Rattle.std.specs.Option.{option_and_then}
 use Rattle.std.proofs.lemmas.Bool.{eqb-true, eqb-false, false≢true}
@@ -9,16 +10,24 @@ use Rattle.pg_msg.specs.declared.limits.TheConstants.{MOST_ADDRESSES, MOST_QUEUE
 use Rattle.pg_msg.specs.declared.message.Message.{Message}
 use Rattle.pg_msg.specs.declared.message.MessageId.{MessageId}
 use Rattle.pg_msg.specs.declared.properties.Property.{Property}
+use Rattle.pg_msg.specs.declared.reply.Refusal.{Refusal}
 use Rattle.pg_msg.specs.declared.reply.Refusal.TheVariants as refusal
+use Rattle.pg_msg.specs.declared.reply.Reply.{Reply}
 use Rattle.pg_msg.specs.declared.reply.Reply.TheVariants as answer
 use Rattle.pg_msg.specs.Messages.{weight_of}
+use Rattle.pg_parse.specs.declared.refusal.FilterError.TheVariants as errors
+use Rattle.pg_parse.proofs.FilterLaws.{filter_either}
 use Rattle.pg_model.specs.Actions.{MakeAddress, MakeQueue, DropQueue, Send, Open, Receive, Acknowledge, Cancel, Close, Count}
 use Rattle.pg_model.specs.Broker.{Settings, Queue, Consumer, Broker, address_named, queue_named, queue_with, consumer_named}
-use Rattle.pg_model.specs.Changes.{message_of, next_id, with_consumers, with_flights, with_id, with_message}
-use Rattle.pg_model.specs.Refusals.{HasFlight, IsHeavy, routed}
-use Rattle.pg_model.specs.Steps.{Does, Gives, Sends, available}
+use Rattle.pg_model.specs.Changes.{message_of, next_id, with_consumers, with_durable, with_flights, with_id, with_message, with_queue}
+use Rattle.pg_model.specs.Causes.{IsFirst}
+use Rattle.pg_model.specs.Refusals.{HasFlight, HasMostQueues, IsHeavy, WantsNumber, unreadable}
+use Rattle.pg_model.specs.Routing.{HasReading, HasTaker, IsRouted, queues_of, text_of}
+use Rattle.pg_model.specs.Steps.{Does, Gives, IsDone, Sends, available}
+use Rattle.pg_model.proofs.RoutingLaws.{goes_once}
+use Rattle.pg_plain.specs.Filtering.{IsUnread}
 use Rattle.pg_plain.specs.Kept.{are_live}
-use Rattle.pg_plain.specs.Unpaged.{ActsUnpaged}
+use Rattle.pg_plain.specs.Unpaged.{ActsUnpaged, unpaged_causes}
 use Rattle.pg_plain.proofs.KeptLemmas.{consumed_live}
 
 -- ---- options
@@ -59,14 +68,53 @@ address_taken s name settings id is = record { refusal = Some refusal.Name; firs
 pub address_many : (s : Broker) (name : List ℕ) (settings : Settings) → address_named s.durable.addresses name ≡ None → MOST_ADDRESSES ≤ length s.durable.addresses → ActsUnpaged s (MakeAddress name settings) (answer.No refusal.Room) s
 address_many s name settings none many = record { refusal = Some refusal.Room; first = inr (absent _ none, inl (many, refl)); answers = (refl, refl) }
 
-pub queue_taken : (s : Broker) (name address : List ℕ) (q : Queue) → queue_named s.durable.queues name ≡ Some q → ActsUnpaged s (MakeQueue name address) (answer.No refusal.Name) s
-queue_taken s name address q is = record { refusal = Some refusal.Name; first = inl (there _ q is, refl); answers = (refl, refl) }
+pub queue_taken : (s : Broker) (name address : List ℕ) (filter : Option (List ℕ)) (q : Queue) → queue_named s.durable.queues name ≡ Some q → ActsUnpaged s (MakeQueue name address filter) (answer.No refusal.Name) s
+queue_taken s name address filter q is = record { refusal = Some refusal.Name; first = inl (there _ q is, refl); answers = (refl, refl) }
 
-pub queue_nowhere : (s : Broker) (name address : List ℕ) → queue_named s.durable.queues name ≡ None → address_named s.durable.addresses address ≡ None → ActsUnpaged s (MakeQueue name address) (answer.No refusal.Address) s
-queue_nowhere s name address new none = record { refusal = Some refusal.Address; first = inr (absent _ new, inl (absent _ none, refl)); answers = (refl, refl) }
+pub queue_nowhere : (s : Broker) (name address : List ℕ) (filter : Option (List ℕ)) → queue_named s.durable.queues name ≡ None → address_named s.durable.addresses address ≡ None → ActsUnpaged s (MakeQueue name address filter) (answer.No refusal.Address) s
+queue_nowhere s name address filter new none = record { refusal = Some refusal.Address; first = inr (absent _ new, inl (absent _ none, refl)); answers = (refl, refl) }
 
-pub queue_full : (s : Broker) (name address : List ℕ) (id : ℕ) → queue_named s.durable.queues name ≡ None → address_named s.durable.addresses address ≡ Some id → MOST_QUEUES ≤ length (routed s id) → ActsUnpaged s (MakeQueue name address) (answer.No refusal.Room) s
-queue_full s name address id new is many = record { refusal = Some refusal.Room; first = inr (absent _ new, inr ((λ never. never (there _ id is)), inl ((id, is, many), refl))); answers = (refl, refl) }
+pub queue_full : (s : Broker) (name address : List ℕ) (filter : Option (List ℕ)) (id : ℕ) → queue_named s.durable.queues name ≡ None → address_named s.durable.addresses address ≡ Some id → MOST_QUEUES ≤ length (queues_of id s.durable.queues)
+    → ActsUnpaged s (MakeQueue name address filter) (answer.No refusal.Room) s
+queue_full s name address filter id new is many = record { refusal = Some refusal.Room; first = inr (absent _ new, inr ((λ never. never (there _ id is)), inl ((id, is, many), refl))); answers = (refl, refl) }
+
+-- no queue has the name, the address is there, and it has room
+record MayMake (s : Broker) (name address : List ℕ) (id : ℕ) : Type 0 where
+  new : queue_named s.durable.queues name ≡ None
+  is : address_named s.durable.addresses address ≡ Some id
+  room : length (queues_of id s.durable.queues) < MOST_QUEUES
+
+not_full : (s : Broker) (name address : List ℕ) (id : ℕ) → MayMake s name address id → HasMostQueues s address → ⊥
+not_full s name address id may full =
+    omega (arith, may.room, subst (λ (n : ℕ). MOST_QUEUES ≤ length (queues_of n s.durable.queues)) (same_Some _ _ (sym full.1 ∙ may.is)) full.2)
+
+-- the causes before the last one don't hold
+last_cause : (s : Broker) (name address : List ℕ) (filter : Option (List ℕ)) (id : ℕ) (o : Option Refusal) → MayMake s name address id → IsFirst (unreadable filter) o → IsFirst (unpaged_causes s (MakeQueue name address filter)) o
+last_cause s name address filter id o may first = inr (absent _ may.new, inr ((λ never. never (there _ id may.is)), inr (not_full s name address id may, first)))
+
+pub queue_unread : (s : Broker) (name address : List ℕ) (filter : Option (List ℕ)) (id at : ℕ) → queue_named s.durable.queues name ≡ None → address_named s.durable.addresses address ≡ Some id → length (queues_of id s.durable.queues) < MOST_QUEUES
+    → IsUnread filter (errors.BadFilter at) → ActsUnpaged s (MakeQueue name address filter) (answer.No (refusal.Filter at)) s
+queue_unread s name address None id at new is room bad = absurd bad
+queue_unread s name address (Some text) id at new is room bad =
+    record {
+      refusal = Some (refusal.Filter at);
+      first = last_cause s name address (Some text) id (Some (refusal.Filter at)) (record { new = new; is = is; room = room }) (inl ((at, bad), refl));
+      answers = (refl, refl);
+    }
+
+read_first : (filter : Option (List ℕ)) → HasReading filter → IsFirst (unreadable filter) None
+read_first None reading = refl
+read_first (Some text) reading = inr ((λ bad. filter_either text reading.0 bad.0 reading.1 bad.1), refl)
+
+pub queue_made : (s : Broker) (name address : List ℕ) (filter : Option (List ℕ)) (id : ℕ) → queue_named s.durable.queues name ≡ None → address_named s.durable.addresses address ≡ Some id → length (queues_of id s.durable.queues) < MOST_QUEUES → HasReading filter
+    → ActsUnpaged s (MakeQueue name address filter) answer.Done (with_durable s (with_queue s.durable name id (text_of filter)))
+queue_made s name address filter id new is room reading =
+    let t : Broker = with_durable s (with_queue s.durable name id (text_of filter)) in
+    record {
+      refusal = None;
+      first = last_cause s name address filter id None (record { new = new; is = is; room = room }) (read_first filter reading);
+      answers = (reading, subst (λ (o : Option ℕ). MatchOption o ⊥ (λ n. IsDone answer.Done t (with_durable s (with_queue s.durable name n (text_of filter))))) (sym is) (refl, refl));
+    }
 
 pub drop_nowhere : (s : Broker) (name : List ℕ) → queue_named s.durable.queues name ≡ None → ActsUnpaged s (DropQueue name) (answer.No refusal.Queue) s
 drop_nowhere s name none = record { refusal = Some refusal.Queue; first = inl (absent _ none, refl); answers = (refl, refl) }
@@ -156,32 +204,41 @@ send_nowhere s address properties body none = record { refusal = Some refusal.Ad
 pub send_heavy : (s : Broker) (address : List ℕ) (properties : List Property) (body : List ℕ) (id : ℕ) → address_named s.durable.addresses address ≡ Some id → IsHeavy s properties body → ActsUnpaged s (Send address properties body) (answer.No refusal.Size) s
 send_heavy s address properties body id is heavy = record { refusal = Some refusal.Size; first = inr ((λ never. never (there _ id is)), inl (heavy, refl)); answers = (refl, refl) }
 
-sends : (s : Broker) (address : List ℕ) (properties : List Property) (body : List ℕ) (id : ℕ) → address_named s.durable.addresses address ≡ Some id → (reply : _) (t : Broker) → Sends s (routed s id) properties body reply t → Does s (Send address properties body) reply t
-sends s address properties body id is reply t does = subst (λ (o : Option ℕ). MatchOption o ⊥ (λ n. Sends s (routed s n) properties body reply t)) (sym is) does
+sends : (s : Broker) (address : List ℕ) (properties : List Property) (body : List ℕ) (id : ℕ) (numbers : List ℕ) → address_named s.durable.addresses address ≡ Some id → IsRouted s id properties numbers
+    → (reply : _) (t : Broker) → Sends s numbers properties body reply t → Does s (Send address properties body) reply t
+sends s address properties body id numbers is routed reply t does =
+    subst (λ (o : Option ℕ). MatchOption o ⊥ (λ n. (others : List ℕ) × IsRouted s n properties others × Sends s others properties body reply t)) (sym is) (numbers, routed, does)
 
-pub send_unrouted : (s : Broker) (address : List ℕ) (properties : List Property) (body : List ℕ) (id : ℕ) → address_named s.durable.addresses address ≡ Some id → (IsHeavy s properties body → ⊥) → routed s id ≡ [] → ActsUnpaged s (Send address properties body) answer.Unrouted s
-send_unrouted s address properties body id is light none =
+-- where a message goes to no queue, it has none to go to
+none_takes : (s : Broker) (address : List ℕ) (properties : List Property) (id : ℕ) → address_named s.durable.addresses address ≡ Some id → IsRouted s id properties [] → WantsNumber s address properties → ⊥
+none_takes s address properties id is routed wants =
+    let taker : HasTaker s id properties = subst (λ (n : ℕ). HasTaker s n properties) (same_Some _ _ (sym wants.1 ∙ is)) wants.2 in
+    taker.2 (goes_once properties (queues_of id s.durable.queues) taker.0 [] taker.1 routed)
+
+pub send_unrouted : (s : Broker) (address : List ℕ) (properties : List Property) (body : List ℕ) (id : ℕ) → address_named s.durable.addresses address ≡ Some id → (IsHeavy s properties body → ⊥) → IsRouted s id properties [] → ActsUnpaged s (Send address properties body) answer.Unrouted s
+send_unrouted s address properties body id is light routed =
     record {
       refusal = None;
-      first = inr ((λ never. never (there _ id is)), inr (light, inr ((λ wants. wants.2 (ap (routed s) (same_Some _ _ (sym wants.1 ∙ is)) ∙ none)), refl)));
-      answers = sends s address properties body id is answer.Unrouted s (subst (λ (l : List ℕ). Sends s l properties body answer.Unrouted s) (sym none) (refl, refl));
+      first = inr ((λ never. never (there _ id is)), inr (light, inr (none_takes s address properties id is routed, refl)));
+      answers = sends s address properties body id [] is routed answer.Unrouted s (refl, refl);
     }
 
-pub send_numberless : (s : Broker) (address : List ℕ) (properties : List Property) (body : List ℕ) (id : ℕ) → address_named s.durable.addresses address ≡ Some id → (IsHeavy s properties body → ⊥) → routed s id ≢ [] → s.ids ≤ s.running.drawn → ActsUnpaged s (Send address properties body) (answer.No refusal.Ids) s
-send_numberless s address properties body id is light some spent =
-    record { refusal = Some refusal.Ids; first = inr ((λ never. never (there _ id is)), inr (light, inl ((id, is, some, spent), refl))); answers = (refl, refl) }
+pub send_numberless : (s : Broker) (address : List ℕ) (properties : List Property) (body : List ℕ) (id : ℕ) (numbers : List ℕ) → address_named s.durable.addresses address ≡ Some id → (IsHeavy s properties body → ⊥) → IsRouted s id properties numbers → numbers ≢ [] → s.ids ≤ s.running.drawn
+    → ActsUnpaged s (Send address properties body) (answer.No refusal.Ids) s
+send_numberless s address properties body id numbers is light routed some spent =
+    record { refusal = Some refusal.Ids; first = inr ((λ never. never (there _ id is)), inr (light, inl ((id, is, (numbers, routed, some), spent), refl))); answers = (refl, refl) }
 
 sent_to : (s : Broker) (numbers : List ℕ) (properties : List Property) (body : List ℕ) → numbers ≢ [] → Sends s numbers properties body (answer.Sent (next_id s)) (with_message s numbers (message_of (next_id s) properties body))
 sent_to s [] properties body some = absurd (some refl)
 sent_to s (n ∷ numbers) properties body some = (refl, refl)
 
-pub send_made : (s : Broker) (address : List ℕ) (properties : List Property) (body : List ℕ) (id : ℕ) → address_named s.durable.addresses address ≡ Some id → (IsHeavy s properties body → ⊥) → routed s id ≢ [] → s.running.drawn < s.ids
-    → ActsUnpaged s (Send address properties body) (answer.Sent (next_id s)) (with_message s (routed s id) (message_of (next_id s) properties body))
-send_made s address properties body id is light some left =
+pub send_made : (s : Broker) (address : List ℕ) (properties : List Property) (body : List ℕ) (id : ℕ) (numbers : List ℕ) → address_named s.durable.addresses address ≡ Some id → (IsHeavy s properties body → ⊥) → IsRouted s id properties numbers → numbers ≢ [] → s.running.drawn < s.ids
+    → ActsUnpaged s (Send address properties body) (answer.Sent (next_id s)) (with_message s numbers (message_of (next_id s) properties body))
+send_made s address properties body id numbers is light routed some left =
     record {
       refusal = None;
       first = inr ((λ never. never (there _ id is)), inr (light, inr ((λ wants. let spent = wants.3 in omega (arith, spent, left)), refl)));
-      answers = sends s address properties body id is _ _ (sent_to s (routed s id) properties body some);
+      answers = sends s address properties body id numbers is routed _ _ (sent_to s numbers properties body some);
     }
 
 abbrev stand_in : MessageId
@@ -196,3 +253,13 @@ pub light_by : (s : Broker) (properties : List Property) (body : List ℕ) (m : 
 light_by s properties body m is light heavy =
     let same = weight_any stand_in (next_id s) properties body in
     light (omega (arith, same, heavy, ap weight_of is))
+
+-- what is delivered to the queues that the message goes to
+pub delivered : {E : Type 0} (s : Broker) (address : List ℕ) (properties : List Property) (body : List ℕ) (id : ℕ) (numbers : List ℕ) (m : Message) (r : Result (Broker × Reply) E) → address_named s.durable.addresses address ≡ Some id
+    → (IsHeavy s properties body → ⊥) → IsRouted s id properties numbers → numbers ≢ [] → s.running.drawn < s.ids → m ≡ message_of stand_in properties body
+    → IfOk r (λ done. done.1 ≡ answer.Sent (next_id s)) → IfOk r (λ done. done.0 ≡ with_message s numbers (record m { id = next_id s })) → IfOk r (λ done. ActsUnpaged s (Send address properties body) done.1 done.0)
+delivered s address properties body id numbers m (Ok done) is light routed some left same reply state =
+    let made = send_made s address properties body id numbers is light routed some left in
+    subst (λ (other : Reply). ActsUnpaged s (Send address properties body) other done.0) (sym reply)
+    (subst (λ (t : Broker). ActsUnpaged s (Send address properties body) (answer.Sent (next_id s)) t) (sym (state ∙ ap (λ (m : Message). with_message s numbers (record m { id = next_id s })) same)) made)
+delivered s address properties body id numbers m (Err e) is light routed some left same reply state = tt

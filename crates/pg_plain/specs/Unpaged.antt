@@ -18,13 +18,14 @@ no_pages address = record { resident = 0; is_paging = false }
 
 -- Why an action is refused where nothing is ever paged. By the causes of the paged broker an address with `max` 0 has no
 -- room in memory, whatever it holds, so those of a message leave out the one on pages. The others don't look at pages.
--- A message of 15 bytes to an address with `max` 0 is refused for none of these, and goes to the address's queues.
+-- A message of 15 bytes to an address with `max` 0 is refused for none of these, and goes to the queues of the address whose
+-- filters it matches.
 abbrev pub unpaged_causes : Broker → Action → List (Cause Refusal)
 unpaged_causes s (Send address properties body) =
     cause (HasAddress s address → ⊥) refusal.Address ∷ cause (IsHeavy s properties body) refusal.Size
-    ∷ cause (WantsNumber s address) refusal.Ids ∷ []
+    ∷ cause (WantsNumber s address properties) refusal.Ids ∷ []
 unpaged_causes s (MakeAddress name settings) = causes no_pages s (MakeAddress name settings)
-unpaged_causes s (MakeQueue name address) = causes no_pages s (MakeQueue name address)
+unpaged_causes s (MakeQueue name address filter) = causes no_pages s (MakeQueue name address filter)
 unpaged_causes s (DropQueue name) = causes no_pages s (DropQueue name)
 unpaged_causes s (Open name queue) = causes no_pages s (Open name queue)
 unpaged_causes s (Receive consumer) = causes no_pages s (Receive consumer)
@@ -51,7 +52,8 @@ StepUnpaged s command reply t = TakesUnpaged s (action_of command) reply t
 -- an id is left for the queue that the command makes, if it makes one
 abbrev pub HasQueueId : Broker → Command → Type 0
 HasQueueId s command =
-    (name address : List ℕ) → action_of command ≡ Some (MakeQueue name address) → s.durable.next < QUEUE_ID_LIMIT
+    (name address : List ℕ) (filter : Option (List ℕ)) → action_of command ≡ Some (MakeQueue name address filter)
+    → s.durable.next < QUEUE_ID_LIMIT
 
 -- What the caller of a step owes: the command's values are in their ranges, and an id is left.
 pub record IsServable (s : Broker) (command : Command) : Type 0 where

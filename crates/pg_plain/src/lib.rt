@@ -4,6 +4,7 @@
 mod broker;
 mod consumers;
 mod consuming;
+mod filter;
 mod making;
 mod plain;
 mod queues;

@@ -6,11 +6,13 @@ ghost use Rattle.pg_model.specs.Actions.{MakeAddress, MakeQueue, DropQueue, Coun
 ghost use Rattle.pg_model.specs.Changes.{with_address, with_durable, with_queue, with_queues, without_queue};
 ghost use Rattle.pg_plain.specs.Unpaged.{ActsUnpaged};
 
+use crate::filter::Filter;
 use crate::plain::Plain;
 use crate::queues::take_out;
 use crate::rows::{AddressRow, QueueRow};
 use pg_bytes::Text;
 use pg_msg::{MOST_ADDRESSES, MOST_QUEUES, Refusal, Reply};
+use pg_parse::FilterError;
 use std::alloc::{AllocError, Global};
 
 impl Plain {
@@ -34,15 +36,16 @@ impl Plain {
         Ok(self)
     }
 
-    // The command `queue`, without a filter.
+    // The command `queue`.
     pub(crate) fn add_queue(
         self,
         alloc: Global,
         name: Text,
         address: &Text,
+        filter: Option<Text>,
     ) -> Result<(Plain, Reply), AllocError>
         requires { self.durable.next < QUEUE_ID_LIMIT }
-        ensures { IfOk result (λ answer. ActsUnpaged self (MakeQueue name address.now) answer.1 answer.0) }
+        ensures { IfOk result (λ answer. ActsUnpaged self (MakeQueue name address.now filter) answer.1 answer.0) }
     {
         if self.queue_id(&name).is_some() {
             return Ok((self, Reply::No(Refusal::Name)));
@@ -50,20 +53,33 @@ impl Plain {
         let Some(id) = self.address_id(address) else {
             return Ok((self, Reply::No(Refusal::Address)));
         };
-        if self.routed(alloc, id)?.len() >= MOST_QUEUES {
+        if self.queues_at(id) >= MOST_QUEUES {
             return Ok((self, Reply::No(Refusal::Room)));
         }
-        Ok((self.with_queue(alloc, name, id)?, Reply::Done))
+        match Filter::asked(alloc, filter) {
+            Ok(filter) => Ok((self.with_queue(alloc, name, id, filter)?, Reply::Done)),
+            Err(FilterError::BadFilter { at }) => {
+                Ok((self, Reply::No(Refusal::Filter(at as u64))))
+            }
+            Err(FilterError::Memory) => Err(AllocError),
+        }
     }
 
-    fn with_queue(mut self, alloc: Global, name: Text, address: usize) -> Result<Plain, AllocError>
+    fn with_queue(
+        mut self,
+        alloc: Global,
+        name: Text,
+        address: usize,
+        filter: Filter,
+    ) -> Result<Plain, AllocError>
         requires { self.durable.next < QUEUE_ID_LIMIT }
-        ensures { IfOk result (λ t. t ≡ with_durable self (with_queue self.durable name address)) }
+        ensures { IfOk result (λ t. t ≡ with_durable self (with_queue self.durable name address filter)) }
     {
         self.queues.push(QueueRow {
             id: self.next,
             name,
             address,
+            filter,
             messages: Vec::new(alloc),
         })?;
         self.next += 1;

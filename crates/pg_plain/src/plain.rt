@@ -6,18 +6,19 @@ ghost use Rattle.pg_msg.specs.declared.limits.TheConstants.{LIMITS};
 ghost use Rattle.pg_msg.specs.declared.command.Command.{Command};
 ghost use Rattle.pg_model.specs.Broker.{address_named, consumer_named, fresh, opened_from, queue_named, queue_with};
 ghost use Rattle.pg_model.specs.Changes.{with_consumers, with_flights, with_id, with_message};
-ghost use Rattle.pg_model.specs.Refusals.{HasFlight, routed};
+ghost use Rattle.pg_model.specs.Refusals.{HasFlight};
+ghost use Rattle.pg_model.specs.Routing.{IsRouted, queues_of};
 ghost use Rattle.pg_model.specs.Steps.{available};
 ghost use Rattle.pg_plain.specs.Kept.{are_live};
 ghost use Rattle.pg_plain.specs.Unpaged.{IsServable, StepUnpaged};
 
 use crate::broker::Broker;
 use crate::consumers::{has_flight, has_on, queue_of, take_up};
-use crate::queues::{address_id, available_at, count_named, give, id_named, ids_at};
+use crate::queues::{address_id, available_at, count_at, count_named, give, id_named, takers};
 use crate::rows::{AddressRow, ConsumerRow, QueueRow, address_row};
 use crate::same::{same_addresses, same_queues};
 use pg_bytes::Text;
-use pg_msg::{Command, LIMITS, Message, MessageId, Refusal, Reply};
+use pg_msg::{Command, LIMITS, Message, MessageId, Property, Refusal, Reply};
 use std::alloc::{AllocError, Global};
 use std::marker::Model;
 
@@ -163,11 +164,23 @@ impl Plain {
         count_named(self.queues.as_slice(), name)
     }
 
-    // The ids of the queues of the address.
-    pub(crate) fn routed(&self, alloc: Global, address: usize) -> Result<Vec<u32>, AllocError>
-        ensures { IfOk result (λ ids. ids.items ≡ routed self.now address) }
+    // How many queues the address has.
+    pub(crate) fn queues_at(&self, address: usize) -> usize
+        ensures { result ≡ length (queues_of address self.now.durable.queues) }
     {
-        ids_at(alloc, self.queues.as_slice(), address)
+        count_at(self.queues.as_slice(), address)
+    }
+
+    // The ids of the queues of the address that a message with these properties goes to.
+    pub(crate) fn routed(
+        &self,
+        alloc: Global,
+        address: usize,
+        properties: &[Property],
+    ) -> Result<Vec<u32>, AllocError>
+        ensures { IfOk result (λ ids. IsRouted self.now address properties.now ids.items) }
+    {
+        takers(alloc, self.queues.as_slice(), address, properties)
     }
 
     // The id of the queue of the consumer of that name.
@@ -277,10 +290,7 @@ impl Broker for Plain {
                 name,
                 address,
                 filter,
-            } => match filter {
-                None => self.add_queue(alloc, name, &address),
-                Some(_) => Ok((self, Reply::No(Refusal::Line))),
-            },
+            } => self.add_queue(alloc, name, &address, filter),
             Command::DropQueue { name } => Ok(self.drop_queue(&name)),
             Command::Send {
                 address,

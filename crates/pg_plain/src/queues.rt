@@ -1,17 +1,17 @@
 // What is found in the list of queues, and what changes in it.
-ghost use Rattle.std.specs.Prelude.{◌≡◌, length, IfOk, OnOk};
+ghost use Rattle.std.specs.Prelude.{◌≡◌, ◌∷◌, [], length, IfOk, OnOk};
 ghost use Rattle.std.specs.List.{position};
 ghost use Rattle.std.specs.Option.{option_and_then, option_map};
 ghost use Rattle.std.specs.Str.{bytes_eq};
 ghost use Rattle.pg_model.specs.Broker.{address_named, queue_named, queue_with};
 ghost use Rattle.pg_model.specs.Changes.{acknowledged, given, given_to, relieved, without_message, without_queue};
-ghost use Rattle.pg_model.specs.Refusals.{queues_of};
+ghost use Rattle.pg_model.specs.Routing.{GoesTo, queues_of, with_taker};
 ghost use Rattle.pg_plain.specs.Kept.{available_in};
 
 use crate::consumers::available;
 use crate::rows::{AddressRow, ConsumerRow, QueueRow};
 use pg_bytes::Text;
-use pg_msg::{Message, MessageId};
+use pg_msg::{Message, MessageId, Property};
 use std::alloc::{AllocError, Global};
 
 // The id of the address of that name.
@@ -80,19 +80,36 @@ fn with_id(queues: &[QueueRow], id: u32) -> Option<&QueueRow>
     queues.iter().find(|q| q.id == id)
 }
 
-// The ids of the queues of the address, in their order.
-pub(crate) fn ids_at(
+// How many queues the address has.
+pub(crate) fn count_at(queues: &[QueueRow], address: usize) -> usize
+    ensures { result ≡ length (queues_of address queues.now) }
+{
+    queues.iter().filter(|q| q.address == address).count()
+}
+
+// The ids of the queues of the address that a message with these properties goes to, in their order.
+pub(crate) fn takers(
     alloc: Global,
     queues: &[QueueRow],
     address: usize,
+    properties: &[Property],
 ) -> Result<Vec<u32>, AllocError>
-    ensures { IfOk result (λ ids. ids.items ≡ queues_of address queues.now) }
+    ensures { IfOk result (λ ids. GoesTo properties.now (queues_of address queues.now) ids.items) }
 {
-    queues
-        .iter()
-        .filter(|q| q.address == address)
-        .map(|q| q.id)
-        .collect(alloc)
+    let mut ids = Vec::new(alloc);
+    for queue in queues {
+        if is_taker(queue, address, properties) {
+            ids.push(queue.id)?;
+        }
+    }
+    Ok(ids)
+}
+
+// Whether the queue is one of the address that a message with these properties goes to.
+fn is_taker(queue: &QueueRow, address: usize, properties: &[Property]) -> bool
+    ensures { GoesTo properties.now (queues_of address (queue.now ∷ [])) (with_taker result queue.now.id []) }
+{
+    queue.address == address && queue.filter.takes(properties)
 }
 
 // Takes the queue with that id out.

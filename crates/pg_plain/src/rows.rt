@@ -3,6 +3,7 @@ ghost use Rattle.std.specs.Prelude.{◌≡◌, ◌↔◌, IsTrue, OnOk};
 ghost use Rattle.std.specs.List.{Contains};
 ghost use Rattle.pg_model.specs.Changes.{given_to, relieved, with_id, without_id, is_before};
 
+use crate::filter::Filter;
 use pg_bytes::Text;
 use pg_msg::{Message, MessageId};
 use std::alloc::{AllocError, Global};
@@ -53,11 +54,12 @@ pub(crate) fn address_row(name: Text, max: u64, page: u64, ahead: u64, dup: u32)
     }
 }
 
-// A live queue, the id of its address, and its messages in their order.
+// A live queue, the id of its address, its filter, and its messages in their order.
 pub(crate) struct QueueRow {
     pub(crate) id: u32,
     pub(crate) name: Text,
     pub(crate) address: usize,
+    pub(crate) filter: Filter,
     pub(crate) messages: Vec<Message>,
 }
 
@@ -66,7 +68,13 @@ impl Model for QueueRow {
 
     ghost Value = { Queue };
 
-    ghost view = { λ q. record { id = q.id; name = q.name; address = q.address; messages = q.messages.items } };
+    ghost view = { λ q. record {
+      id = q.id;
+      name = q.name;
+      address = q.address;
+      filter = q.filter;
+      messages = q.messages.items;
+    } };
 }
 
 impl Drop for QueueRow {
@@ -75,6 +83,7 @@ impl Drop for QueueRow {
             id: _id,
             name: _name,
             address: _address,
+            filter: _filter,
             messages: _messages,
         } = self;
     }

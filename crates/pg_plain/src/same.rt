@@ -45,6 +45,7 @@ fn same_queue(a: &QueueRow, b: &QueueRow) -> bool
     a.id == b.id
         && a.name == b.name
         && a.address == b.address
+        && a.filter.same(&b.filter)
         && same_messages(a.messages.as_slice(), b.messages.as_slice())
 }
 

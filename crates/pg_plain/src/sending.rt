@@ -1,9 +1,10 @@
 // The command `send`.
 ghost use Rattle.std.specs.Prelude.{◌≡◌, ◌<◌, ◌≤◌, ◌↔◌, IsTrue, IfOk};
 ghost use Rattle.pg_msg.specs.declared.limits.TheConstants.{WEIGHT_LIMIT};
+ghost use Rattle.pg_msg.specs.declared.reply.Reply.TheVariants.{Sent};
 ghost use Rattle.pg_msg.specs.Messages.{AreProperties, weight_of};
 ghost use Rattle.pg_model.specs.Actions.{Send};
-ghost use Rattle.pg_model.specs.Changes.{message_of};
+ghost use Rattle.pg_model.specs.Changes.{message_of, next_id, with_message};
 ghost use Rattle.pg_plain.specs.Unpaged.{ActsUnpaged};
 
 use crate::plain::Plain;
@@ -26,26 +27,37 @@ impl Plain {
         let Some(id) = self.address_id(address) else {
             return Ok((self, Reply::No(Refusal::Address)));
         };
-        let (mut message, heavy) = weighed(properties, body);
+        let (message, heavy) = weighed(properties, body);
         if heavy {
             return Ok((self, Reply::No(Refusal::Size)));
         }
-        let numbers = self.routed(alloc, id)?;
+        let numbers = self.routed(alloc, id, message.properties.as_slice())?;
         if numbers.is_empty() {
             return Ok((self, Reply::Unrouted));
         }
         if self.drawn >= self.ids {
             return Ok((self, Reply::No(Refusal::Ids)));
         }
+        self.deliver(alloc, numbers.as_slice(), message)
+    }
+
+    // Each of the queues with these numbers gets the message, under the id that is drawn next.
+    fn deliver(
+        self,
+        alloc: Global,
+        numbers: &[u32],
+        mut message: Message,
+    ) -> Result<(Plain, Reply), AllocError>
+        requires { self.running.drawn < self.ids }
+        ensures reply { IfOk result (λ answer. answer.1 ≡ Sent (next_id self)) }
+        ensures state { IfOk result (λ answer. answer.0 ≡ with_message self numbers.now (record message { id = next_id self })) }
+    {
         message.id = MessageId {
             epoch: self.epoch,
             number: self.drawn + 1,
         };
         let reply = Reply::Sent(message.id);
-        Ok((
-            self.with_message(alloc, numbers.as_slice(), &message)?,
-            reply,
-        ))
+        Ok((self.with_message(alloc, numbers, &message)?, reply))
     }
 }
 

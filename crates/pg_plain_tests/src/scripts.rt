@@ -59,7 +59,7 @@ const REFUSALS: [Row; 34] = [
     ("cancel C 1-1", 0, "no delivery\n"),
     ("receive C", 0, "msg 1-1 hex 78\n"),
     ("ack C 2-1", 0, "no delivery\n"),
-    ("queue R on A where k = 1", 0, "no line\n"),
+    ("queue R on A where k =", 0, "no filter 3\n"),
     ("send A tx T body x", 0, "no line\n"),
     ("send A id 0a body x", 0, "no line\n"),
     ("ack C 1-1 tx T", 0, "no line\n"),
@@ -102,8 +102,75 @@ const SEVERAL: [Row; 28] = [
     ("count Q", 0, "count 0\n"),
 ];
 
+// Filters that have a reading and some that have none. That is the last refusal.
+const FILTERS: [Row; 14] = [
+    ("address A max 1000 page 100 ahead 0 dup 0", 0, "ok\n"),
+    ("queue Q on A where a IN ('x','y') OR b IS NULL", 0, "ok\n"),
+    ("send A prop a 'y' prop b 1 body m", 0, "sent 1-1\n"),
+    ("send A prop a 1 prop b TRUE body m", 0, "unrouted\n"),
+    ("send A body m", 0, "sent 1-2\n"),
+    ("queue P on A where a = 1 = 2", 0, "no filter 6\n"),
+    ("queue P on A where a BETWEEN 1 OR 3", 0, "no filter 12\n"),
+    ("queue P on A where a = 'x", 0, "no filter 4\n"),
+    ("queue P on A where a >", 0, "no filter 3\n"),
+    ("queue P on A where ", 0, "no filter 0\n"),
+    ("queue Q on A where a >", 0, "no name\n"),
+    ("queue P on B where a >", 0, "no address\n"),
+    ("queue P on A where a", 4_095, "ok\n"),
+    ("count Q", 0, "count 2\n"),
+];
+
+// A filter that is unknown isn't true, not under NOT either. Sums stay within 64 bits. The escape makes `_` itself.
+const MATCHES: [Row; 14] = [
+    ("address A max 1000 page 100 ahead 0 dup 0", 0, "ok\n"),
+    ("queue Q on A where NOT color = 'red'", 0, "ok\n"),
+    ("send A body x", 0, "unrouted\n"),
+    ("address B max 1000 page 100 ahead 0 dup 0", 0, "ok\n"),
+    ("queue R on B where a BETWEEN 1 AND 3", 0, "ok\n"),
+    ("send B prop a 3 body x", 0, "sent 1-1\n"),
+    ("address C max 1000 page 100 ahead 0 dup 0", 0, "ok\n"),
+    ("queue S on C where a + 1 > 0", 0, "ok\n"),
+    ("send C prop a 9223372036854775807 body x", 0, "unrouted\n"),
+    ("address D max 1000 page 100 ahead 0 dup 0", 0, "ok\n"),
+    (
+        "queue T on D where color LIKE 'r\\_%' ESCAPE '\\'",
+        0,
+        "ok\n",
+    ),
+    ("send D prop color 'r_1' body x", 0, "sent 1-2\n"),
+    ("send D prop color 'red' body x", 0, "unrouted\n"),
+    ("count T", 0, "count 1\n"),
+];
+
+// A queue without a filter gets each message of its address. A name that is taken again has the new filter alone.
+const FILTERED: [Row; 15] = [
+    ("address A max 1000 page 100 ahead 0 dup 0", 0, "ok\n"),
+    ("queue Q on A where k = 1", 0, "ok\n"),
+    ("queue P on A", 0, "ok\n"),
+    ("send A prop k 1 body x", 0, "sent 1-1\n"),
+    ("send A prop k 2 body x", 0, "sent 1-2\n"),
+    ("send A body x", 0, "sent 1-3\n"),
+    ("count P", 0, "count 3\n"),
+    ("count Q", 0, "count 1\n"),
+    ("drop Q", 0, "ok\n"),
+    ("queue Q on A where k = 2", 0, "ok\n"),
+    ("send A prop k 1 body x", 0, "sent 1-4\n"),
+    ("count Q", 0, "count 0\n"),
+    ("send A prop k 2 body x", 0, "sent 1-5\n"),
+    ("count Q", 0, "count 1\n"),
+    ("count P", 0, "count 5\n"),
+];
+
+// What is answered behind an opening to the broker with one queue, whose filter is `k = 1`.
+const REOPENED: [Row; 4] = [
+    ("queue Q on A", 0, "no name\n"),
+    ("send A prop k 2 body x", 0, "unrouted\n"),
+    ("send A prop k 1 body x", 0, "sent 2-1\n"),
+    ("count Q", 0, "count 1\n"),
+];
+
 // Where an epoch has two numbers, a third message has none. One that goes nowhere needs none.
-const NUMBERLESS: [Row; 7] = [
+const NUMBERLESS: [Row; 10] = [
     ("address A max 1000 page 100 ahead 0 dup 0", 0, "ok\n"),
     ("address B max 1000 page 100 ahead 0 dup 0", 0, "ok\n"),
     ("queue Q on A", 0, "ok\n"),
@@ -111,6 +178,9 @@ const NUMBERLESS: [Row; 7] = [
     ("send A body x", 0, "sent 1-2\n"),
     ("send A body x", 0, "no ids\n"),
     ("send B body x", 0, "unrouted\n"),
+    ("queue R on B where k = 1", 0, "ok\n"),
+    ("send B body x", 0, "unrouted\n"),
+    ("send B prop k 1 body x", 0, "no ids\n"),
 ];
 
 // The line with so many bytes behind it.
@@ -159,10 +229,10 @@ fn with_addresses(alloc: Global, mut plain: Plain) -> Result<Option<Plain>, Allo
     Ok(Some(plain))
 }
 
-// The broker with as many queues on one address as it may have, and None where one isn't made.
+// The broker with as many queues on one address as it may have, each with a filter, and None where one isn't made.
 fn with_queues(alloc: Global, mut plain: Plain) -> Result<Option<Plain>, AllocError> {
     for number in 0..1_000u32 {
-        let line = format!(in alloc; "queue Q{number} on A7")?;
+        let line = format!(in alloc; "queue Q{number} on A7 where k = {number}")?;
         match told(alloc, plain, line.as_bytes(), "ok\n")? {
             Some(next) => plain = next,
             None => return Ok(None),
@@ -171,13 +241,18 @@ fn with_queues(alloc: Global, mut plain: Plain) -> Result<Option<Plain>, AllocEr
     Ok(Some(plain))
 }
 
-// What is answered where there is no room for one more, and where there is.
-const FULL: [Row; 5] = [
+// What is answered where there is no room for one more, and where there is. Of the many filters one matches, or none.
+const FULL: [Row; 10] = [
     ("address A7 max 0 page 1 ahead 0 dup 0", 0, "no name\n"),
     ("address B max 0 page 1 ahead 0 dup 0", 0, "no room\n"),
     ("queue R on A7", 0, "no room\n"),
     ("queue Q0 on A7", 0, "no name\n"),
+    ("queue R on A7 where k =", 0, "no room\n"),
     ("queue R on A8", 0, "ok\n"),
+    ("send A7 prop k 7 body x", 0, "sent 1-1\n"),
+    ("count Q7", 0, "count 1\n"),
+    ("count Q8", 0, "count 0\n"),
+    ("send A7 prop k 1000 body x", 0, "unrouted\n"),
 ];
 
 // Whether these are the answers.
@@ -248,6 +323,51 @@ fn first_unequal(alloc: Global) -> Result<Option<usize>, AllocError> {
     Ok(None)
 }
 
+// Lines that make a queue, and whether the durable parts behind them are equal: filters are, where their texts are.
+const MADE: [(&str, &str, bool); 4] = [
+    ("queue Q on A", "queue Q on A", true),
+    ("queue Q on A where k = 1", "queue Q on A where k = 1", true),
+    ("queue Q on A", "queue Q on A where k = 1", false),
+    ("queue Q on A where k = 1", "queue Q on A where k=1", false),
+];
+
+// The broker with an address and the queue of that line.
+fn with_one(alloc: Global, line: &'static str) -> Result<Option<Plain>, AllocError> {
+    let rows = [FILTERED[0], (line, 0, "ok\n")];
+    after(alloc, rows.as_slice(), 2)
+}
+
+// The place of the first pair of these that isn't so.
+fn first_other_filter(alloc: Global) -> Result<Option<usize>, AllocError> {
+    for (place, (one, other, equal)) in MADE.into_iter().enumerate() {
+        let (Some(one), Some(other)) = (with_one(alloc, one)?, with_one(alloc, other)?) else {
+            return Ok(Some(place));
+        };
+        if one.same(&other) != equal {
+            return Ok(Some(place));
+        }
+    }
+    Ok(None)
+}
+
+// Whether the filter of a queue is there behind an opening.
+fn keeps_filters(alloc: Global) -> Result<bool, AllocError> {
+    let Some(plain) = after(alloc, FILTERED.as_slice(), 2)? else {
+        return Ok(false);
+    };
+    if plain.epoch() == u32::MAX {
+        return Ok(false);
+    }
+    let mut plain = plain.reopened();
+    for row in REOPENED {
+        match stepped(alloc, plain, row)? {
+            Some(next) => plain = next,
+            None => return Ok(false),
+        }
+    }
+    Ok(true)
+}
+
 #[test]
 fn delivers_and_takes_back(rt: HostRuntime) -> Result<(), Fail> {
     assert!(rt; first_wrong(rt.alloc(), 1_000, DELIVERIES.as_slice())?.is_none());
@@ -257,6 +377,36 @@ fn delivers_and_takes_back(rt: HostRuntime) -> Result<(), Fail> {
 #[test]
 fn refuses_in_order(rt: HostRuntime) -> Result<(), Fail> {
     assert!(rt; first_wrong(rt.alloc(), 1_000, REFUSALS.as_slice())?.is_none());
+    Ok(())
+}
+
+#[test]
+fn reads_filters(rt: HostRuntime) -> Result<(), Fail> {
+    assert!(rt; first_wrong(rt.alloc(), 1_000, FILTERS.as_slice())?.is_none());
+    Ok(())
+}
+
+#[test]
+fn matches_by_filters(rt: HostRuntime) -> Result<(), Fail> {
+    assert!(rt; first_wrong(rt.alloc(), 1_000, MATCHES.as_slice())?.is_none());
+    Ok(())
+}
+
+#[test]
+fn routes_by_filters(rt: HostRuntime) -> Result<(), Fail> {
+    assert!(rt; first_wrong(rt.alloc(), 1_000, FILTERED.as_slice())?.is_none());
+    Ok(())
+}
+
+#[test]
+fn keeps_filters_at_opening(rt: HostRuntime) -> Result<(), Fail> {
+    assert!(rt; keeps_filters(rt.alloc())?);
+    Ok(())
+}
+
+#[test]
+fn tells_filters_apart(rt: HostRuntime) -> Result<(), Fail> {
+    assert!(rt; first_other_filter(rt.alloc())?.is_none());
     Ok(())
 }
 

@@ -24,6 +24,23 @@ const PROPERTIES: [&str; 5] = [
     " prop region 'EU' prop total 250",
 ];
 
+/// What stands behind a queue's address: of twelve times nothing five times, a filter five times, and twice a text that has no
+/// reading.
+const FILTERS: [&str; 12] = [
+    "",
+    "",
+    "",
+    "",
+    "",
+    " where k = -1",
+    " where NOT k = -1 OR region = 'EU'",
+    " where total BETWEEN 1 AND 300",
+    " where k IS NULL",
+    " where l AND k LIKE '%''s'",
+    " where k = 1 = 2",
+    " where l = 1 > 2",
+];
+
 /// A run that doesn't begin so may have no queue for long, or no consumer.
 const BEGINNING: [&str; 3] = [
     "address A max 10000 page 100 ahead 0 dup 0",
@@ -86,7 +103,8 @@ fn address_line(alloc: Global, rng: &mut Pcg32) -> Result<Octets, AllocError> {
 fn queue_line(alloc: Global, rng: &mut Pcg32) -> Result<Octets, AllocError> {
     let name = queue_name(rng);
     let address = address_name(rng);
-    let line = format!(in alloc; "queue {name} on {address}")?;
+    let filter = FILTERS[(rng.next_u32() % 12) as usize];
+    let line = format!(in alloc; "queue {name} on {address}{filter}")?;
     Octets::from_slice(alloc, line.as_bytes())
 }
 

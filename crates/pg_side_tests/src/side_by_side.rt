@@ -142,7 +142,7 @@ fn the_program_answers_as_the_unpaged_broker_does(rt: HostRuntime) -> Result<(),
 type Told = (&'static str, &'static str);
 
 /// Each kind of a reply to the commands, and some lines and counts.
-const KINDS: [Told; 27] = [
+const KINDS: [Told; 28] = [
     ("", "ok\n"),
     ("drop ", "ok\n"),
     ("consumer ", "ok\n"),
@@ -163,6 +163,7 @@ const KINDS: [Told; 27] = [
     ("", "no address\n"),
     ("", "no queue\n"),
     ("consumer ", "no queue\n"),
+    ("queue ", "no filter 6\n"),
     ("", "no consumer-open\n"),
     ("", "no ids\n"),
     ("receive ", "no consumer\n"),
