@@ -7,6 +7,8 @@ mod bytewise;
 #[cfg(test)]
 mod consumers;
 #[cfg(test)]
+mod filters;
+#[cfg(test)]
 mod messages;
 #[cfg(test)]
 mod scripts;

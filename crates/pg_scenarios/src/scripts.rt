@@ -29,8 +29,8 @@ const SCRIPTS: [(&str, &[u8], &[u8]); 11] = [
     ),
     (
         "commands that aren't built",
-        b"address A max 50 page 100 ahead 0 dup 0\nqueue Q on A where x\nsend A id 61 body x\nsend A tx T body x\nbegin T\nstat A\nack C 1-1 tx T\nreceive C\n",
-        b"ok\nno line\nno line\nno line\nno line\nno line\nno line\nno consumer\n",
+        b"address A max 50 page 100 ahead 0 dup 0\nsend A id 61 body x\nsend A tx T body x\nbegin T\nstat A\nack C 1-1 tx T\nreceive C\n",
+        b"ok\nno line\nno line\nno line\nno line\nno line\nno consumer\n",
     ),
     (
         "properties",
