@@ -17,13 +17,13 @@ use Rattle.pg_cursor.specs.Tracking.{Tracks}
 use Rattle.pg_cursor.specs.Walking.{IsAtEnd, TailStands, Walks}
 
 module _ (first : ℕ) (pages : Pages) where
-  there_from : (page : ℕ) → first ≤ page → pages_from first pages page ≡ pages page
+  pub there_from : (page : ℕ) → first ≤ page → pages_from first pages page ≡ pages page
   there_from page later = ap (λ (b : Bool). if b then pages page else None) yes
     where
       yes : nat_le first page ≡ true
       yes = grind (arith, common_steps, later)
 
-  there_on : (page : ℕ) (bytes : List ℕ) → pages_from first pages page ≡ Some bytes → (pages page ≡ Some bytes) × (first ≤ page)
+  pub there_on : (page : ℕ) (bytes : List ℕ) → pages_from first pages page ≡ Some bytes → (pages page ≡ Some bytes) × (first ≤ page)
   there_on page bytes is = go (cases_Bool (nat_le first page))
     where
       never : None ≡ Some bytes → ⊥
@@ -56,7 +56,7 @@ module _ (first : ℕ) (pages : Pages) where
   }
 
   module _ (queue : ℕ) (acks : AckSets) (txs : Transactions) where
-    live_on : (place : Place) → IsLive queue acks txs (pages_from first pages) place → IsLive queue acks txs pages place
+    pub live_on : (place : Place) → IsLive queue acks txs (pages_from first pages) place → IsLive queue acks txs pages place
     live_on place live = record {
       entry = record {
         frame = live.entry.frame;
@@ -67,7 +67,7 @@ module _ (first : ℕ) (pages : Pages) where
       open_ = live.open_;
     }
 
-    live_from : (place : Place) → first ≤ place.position.page → IsLive queue acks txs pages place → IsLive queue acks txs (pages_from first pages) place
+    pub live_from : (place : Place) → first ≤ place.position.page → IsLive queue acks txs pages place → IsLive queue acks txs (pages_from first pages) place
     live_from place later live = record {
       entry = record {
         frame = live.entry.frame;
@@ -87,7 +87,7 @@ module _ (first : ℕ) (pages : Pages) where
       is = stands.is;
     }
 
-    not_passed : (tail : Tail) (place : Place) → (IsPassed tail place.position → ⊥) → page_of tail ≤ place.position.page
+    pub not_passed : (tail : Tail) (place : Place) → (IsPassed tail place.position → ⊥) → page_of tail ≤ place.position.page
     not_passed tail place open_ = go (cases_Bool (nat_le (page_of tail) place.position.page))
       where
         go : (nat_le (page_of tail) place.position.page ≡ true) ⊎ (nat_le (page_of tail) place.position.page ≡ false) → page_of tail ≤ place.position.page

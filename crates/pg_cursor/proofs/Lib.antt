@@ -5,3 +5,10 @@ pub mod Stepping
 pub mod Walked
 pub mod FirstPage
 pub mod Giving
+pub mod Counted
+pub mod CountedBehind
+pub mod Along
+pub mod Listed
+pub mod OneWay
+pub mod Kept
+pub mod Framed

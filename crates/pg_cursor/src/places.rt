@@ -1,9 +1,13 @@
 // Places, by their positions.
-ghost use Rattle.std.specs.Prelude.{◌≡◌, [], is_some, Some, None, OnOk, OnErr, IfSome, IfNone};
+ghost use Rattle.std.specs.Prelude.{◌≡◌, [], filter, length, not, is_some, Some, None, OnOk, OnErr, IfSome, IfNone};
+ghost use Rattle.std.specs.BTreeMap.{keys};
+ghost use Rattle.pg_acks.specs.Acked.{is_acknowledged};
+ghost use Rattle.pg_page.specs.Pages.{position_at};
+ghost use Rattle.pg_cursor.specs.Counting.{AreOnce, open_of};
 ghost use Rattle.pg_cursor.specs.Kept.{Key};
 ghost use Rattle.pg_cursor.specs.Places.{ChangesAt, IsFirstOf, offset_at};
 
-use pg_acks::Position;
+use pg_acks::{Acks, Position};
 use pg_page::Place;
 use std::alloc::{AllocError, Global};
 use std::collections::BTreeMap;
@@ -71,11 +75,48 @@ impl Places {
         Ok(())
     }
 
+    // How many there are.
+    pub(crate) fn count(&self) -> u64
+        ensures count { result ≡ length self.now }
+        ensures once { AreOnce self.now }
+    {
+        self.offsets.len() as u64
+    }
+
+    // How many of them aren't acknowledged at the queue.
+    pub(crate) fn count_open(&self, queue: u32, acks: &Acks) -> u64
+        ensures count { result ≡ length (open_of queue acks.now self.now) }
+        ensures once { AreOnce self.now }
+    {
+        open_keys(&self.offsets, queue, acks) as u64
+    }
+
     // Takes the place at the position out, if there is one.
     pub(crate) fn remove(&mut self, position: Position)
         ensures { ChangesAt position None self.old self.new }
     {
         self.offsets.remove(&key(position));
+    }
+}
+
+// How many keys are those of positions that aren't acknowledged at the queue.
+fn open_keys(offsets: &BTreeMap<(u64, u32), u64>, queue: u32, acks: &Acks) -> usize
+    ensures { result ≡ length (filter (λ key. not (is_acknowledged acks.now queue (position_at key.0 key.1)))
+        (keys offsets.now)) }
+{
+    offsets
+        .keys()
+        .filter(|key| !acks.contains(queue, position_of(**key)))
+        .count()
+}
+
+// The position of a kept place.
+fn position_of(key: (u64, u32)) -> Position
+    ensures { result ≡ position_at key.0 key.1 }
+{
+    Position {
+        page: key.0,
+        index: key.1,
     }
 }
 

@@ -8,12 +8,15 @@ ghost use Rattle.pg_disk.specs.Sites.{OnFiles, Steps};
 ghost use Rattle.pg_acks.specs.Acked.{AckSets, is_acknowledged};
 ghost use Rattle.pg_page.specs.Pages.{Pages};
 ghost use Rattle.pg_pagetx.specs.Standings.{Transactions};
+ghost use Rattle.pg_cursor.specs.Counting.{CountsLive};
 ghost use Rattle.pg_cursor.specs.Entries.{pages_from};
 ghost use Rattle.pg_cursor.specs.Places.{ChangesAt, HasPlace, page_of};
 ghost use Rattle.pg_cursor.specs.Tracking.{Cursor, GivesNext, IsAvailable, PutsBack, Removes, Takes, Tracks};
 ghost use Rattle.pg_cursor.specs.Walking.{AreThere, IsDamageIn, OnPages, TailStands};
+ghost use Rattle.pg_cursor.specs.Ways.{OnReads, ReadsAlong};
 ghost use Rattle.pg_cursor.specs.declared.tail.Tail.TheVariants.{Begin};
 
+use crate::counting::count_behind;
 use crate::places::Places;
 use crate::tail::Tail;
 use crate::walking::walk;
@@ -88,7 +91,8 @@ impl Subscription {
 
     /// Takes the first place that names the queue, counts, isn't acknowledged and isn't taken, and answers it; None
     /// where there is none. `last` is the address's last page, or a number below the first one where it has no page.
-    /// Reads no page that the tail has passed, and of a place in the front nothing. `Damaged` comes where a page from
+    /// Reads no page that the tail has passed, and of a place in the front nothing; at Ok at most 27 bytes and the payload
+    /// of each frame that the tail passes, 18 bytes for each page that it enters, and 18 besides. `Damaged` comes where a page from
     /// the tail's to the last one breaks a rule that the walk meets. At Err nothing is handed back.
     pub fn next_ready<D: Disk>(
         self,
@@ -103,6 +107,8 @@ impl Subscription {
         ensures next { IfOk result (λ done. OnPages D.Disk disk.old self.address
             (GivesNext last acks.now txs.now done.1 self done.0)) }
         ensures takes { IfOk result (λ done. Takes done.1 self done.0) }
+        ensures taken { IfOk result (λ done. OnReads D.Disk disk.old disk.new self.address
+            (ReadsAlong 18 self.tail done.0.tail)) }
         ensures same { (n : ℕ) × Steps D.Disk disk.old disk.new (Reads n) }
         ensures any_moment { Within D.Disk disk.old disk.new Leaves }
         ensures damaged { IfErr result (IsDamageIn D.Disk disk.old self.address (page_of self.tail) last) }
@@ -136,6 +142,43 @@ impl Subscription {
             taken,
         };
         Ok((cursor, found))
+    }
+
+    /// How many places name the queue, count and aren't acknowledged, taken ones included, and 2^64 - 1 where there are
+    /// more. `last` is as for `next_ready`, and so are the errors. Reads what stands behind the tail, and keeps nothing.
+    pub fn count<D: Disk>(
+        &self,
+        alloc: Global,
+        disk: &mut D,
+        acks: &Acks,
+        txs: &PageTxs,
+        last: u64,
+    ) -> Result<u64, Fault>
+        requires there { OnFiles D.Disk disk.old (AreThere self.now.address (page_of self.now.tail) last) }
+        requires stands { OnPages D.Disk disk.old self.now.address (TailStands self.now.tail) }
+        ensures count { IfOk result (λ count. OnPages D.Disk disk.old self.now.address
+            (CountsLive last self.now acks.now txs.now count)) }
+        ensures same { (n : ℕ) × Steps D.Disk disk.old disk.new (Reads n) }
+        ensures any_moment { Within D.Disk disk.old disk.new Leaves }
+        ensures damaged { IfErr result (IsDamageIn D.Disk disk.old self.now.address (page_of self.now.tail) last) }
+        ensures cause { CountsFault (D.faults disk.old) (D.faults disk.new) result }
+    {
+        let behind = count_behind(
+            alloc,
+            disk,
+            self.queue,
+            self.address,
+            acks,
+            txs,
+            self.tail,
+            last,
+        )?;
+        let taken = self.taken.count_open(self.queue, acks);
+        Ok(
+            behind
+                .saturating_add(self.front.count())
+                .saturating_add(taken),
+        )
     }
 
     /// Makes a taken place available again, before all later ones. Fails only where there is no memory for it, and

@@ -5,7 +5,10 @@ ghost use Rattle.pg_disk.specs.Counts.{CountsFault};
 ghost use Rattle.pg_disk.specs.Image.{IsFileThere, Leaves};
 ghost use Rattle.pg_disk.specs.Moments.{Within};
 ghost use Rattle.pg_disk.specs.Sites.{OnFiles, Steps};
+ghost use Rattle.pg_disk.specs.Sites.{OnAccounts};
 ghost use Rattle.pg_page.specs.Faults.{BreaksOn, IsPageFault};
+ghost use Rattle.pg_page.specs.Places.{ReadsFew};
+ghost use Rattle.pg_cursor.specs.Ways.{OnReads, ReadsAlong, ReadsAt, StepReads};
 ghost use Rattle.pg_page.specs.Pages.{page_file};
 ghost use Rattle.pg_cursor.specs.Entries.{FrameCounts, IsLive, StandsOn, names};
 ghost use Rattle.pg_cursor.specs.Places.{IsNoEarlier, page_of};
@@ -45,6 +48,7 @@ pub(crate) fn page_of(tail: Tail) -> u64
 fn first_on_page<D: Disk>(disk: &mut D, address: u32, page: u64) -> Result<Option<Place>, Fault>
     requires { OnFiles D.Disk disk.old (IsFileThere (page_file address page)) }
     ensures next { IfOk result (λ next. OnPages D.Disk disk.old address (IsNext (Begin page) next)) }
+    ensures taken { OnAccounts D.Disk disk.old disk.new (ReadsFew 18) }
     ensures same { (n : ℕ) × Steps D.Disk disk.old disk.new (Reads n) }
     ensures any_moment { Within D.Disk disk.old disk.new Leaves }
     ensures damaged { IfErr result (IsPageFault (page_file address page)
@@ -67,6 +71,7 @@ fn next_on_page<D: Disk>(disk: &mut D, address: u32, tail: Tail) -> Result<Optio
     requires there { OnFiles D.Disk disk.old (IsFileThere (page_file address (page_of tail))) }
     requires stands { OnPages D.Disk disk.old address (TailStands tail) }
     ensures next { IfOk result (λ next. OnPages D.Disk disk.old address (IsNext tail next)) }
+    ensures taken { OnAccounts D.Disk disk.old disk.new (ReadsFew 18) }
     ensures same { (n : ℕ) × Steps D.Disk disk.old disk.new (Reads n) }
     ensures any_moment { Within D.Disk disk.old disk.new Leaves }
     ensures damaged { IfErr result (IsPageFault (page_file address (page_of tail))
@@ -135,6 +140,7 @@ fn is_live<D: Disk>(
     requires stands { OnPages D.Disk disk.old address (λ pages. StandsOn pages place) }
     ensures live { IfOk result (λ live. OnPages D.Disk disk.old address (λ pages.
         IsTrue live ↔ IsLive queue acks.now txs.now pages place)) }
+    ensures taken { IfOk result (λ _. OnReads D.Disk disk.old disk.new address (ReadsAt place)) }
     ensures same { (n : ℕ) × Steps D.Disk disk.old disk.new (Reads n) }
     ensures any_moment { Within D.Disk disk.old disk.new Leaves }
     ensures damaged { IfErr result (IsPageFault (page_file address place.position.page)
@@ -149,7 +155,7 @@ fn is_live<D: Disk>(
 }
 
 // One step of a walk from the tail.
-fn one_step<D: Disk>(
+pub(crate) fn one_step<D: Disk>(
     alloc: Global,
     disk: &mut D,
     queue: u32,
@@ -163,6 +169,7 @@ fn one_step<D: Disk>(
     requires stands { OnPages D.Disk disk.old address (TailStands tail) }
     ensures walks { IfOk result (λ step. OnPages D.Disk disk.old address (IsStep queue acks.now txs.now last tail step)) }
     ensures onward { IfOk result (StepsOn last tail) }
+    ensures taken { IfOk result (λ step. OnReads D.Disk disk.old disk.new address (StepReads tail step)) }
     ensures same { (n : ℕ) × Steps D.Disk disk.old disk.new (Reads n) }
     ensures any_moment { Within D.Disk disk.old disk.new Leaves }
     ensures damaged { IfErr result (IsDamageIn D.Disk disk.old address (page_of tail) last) }
@@ -215,6 +222,7 @@ pub(crate) fn walk<D: Disk>(
     ensures end { IfOk result (λ walked. IfNone walked.1 (OnPages D.Disk disk.old address
         (IsAtEnd queue acks.now txs.now last walked.0))) }
     ensures later { IfOk result (λ walked. IsNoEarlier from walked.0) }
+    ensures taken { IfOk result (λ walked. OnReads D.Disk disk.old disk.new address (ReadsAlong 18 from walked.0)) }
     ensures same { (n : ℕ) × Steps D.Disk disk.old disk.new (Reads n) }
     ensures any_moment { Within D.Disk disk.old disk.new Leaves }
     ensures damaged { IfErr result (IsDamageIn D.Disk disk.old address (page_of from) last) }

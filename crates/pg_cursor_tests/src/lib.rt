@@ -2,4 +2,12 @@
 #![tactic(auto)]
 
 #[cfg(test)]
+mod beside;
+#[cfg(test)]
 mod cursors;
+#[cfg(test)]
+mod drains;
+#[cfg(test)]
+mod pages;
+#[cfg(test)]
+mod passed;

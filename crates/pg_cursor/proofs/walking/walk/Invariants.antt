@@ -5,6 +5,7 @@ use Rattle.pg_disk.specs.Image.{Leaves}
 use Rattle.pg_disk.specs.Moments.{Within}
 use Rattle.pg_cursor.specs.Places.{IsNoEarlier}
 use Rattle.pg_cursor.specs.Walking.{OnPages, Walks}
+use Rattle.pg_cursor.specs.Ways.{OnReads, ReadsAlong}
 use Rattle.pg_cursor.proofs.Walked.{far}
 use Rattle.pg_cursor.proofs.walking.walk.Given as goal
 
@@ -15,6 +16,7 @@ invariant-frames g l = record {
   run : Within g.D.Disk l.fn.disk l.disk Leaves;
   faults : g.D.Disk.faults l.disk ≡ g.D.Disk.faults l.fn.disk;
   later : IsNoEarlier l.fn.from l.tail;
+  read : OnReads g.D.Disk l.fn.disk l.disk l.address (ReadsAlong 0 l.fn.from l.tail);
   walked : OnPages g.D.Disk l.fn.disk l.address (Walks l.queue l.acks l.txs l.fn.from l.tail None);
 }
 

@@ -1,4 +1,4 @@
-use Rattle.std.proofs.Common.{Some, sym, subst}
+use Rattle.std.proofs.Common.{Some, sym, subst, arith}
 use Rattle.std.specs.Prelude.{IfNone}
 use Rattle.pg_disk.specs.Account.{account}
 use Rattle.pg_disk.specs.Views.{as_read}
@@ -7,6 +7,8 @@ use Rattle.pg_cursor.specs.Places.{page_of}
 use Rattle.pg_cursor.specs.Tracking.{Cursor, GivesNext}
 use Rattle.pg_cursor.specs.Walking.{AreThere, IsAtEnd, TailStands}
 use Rattle.pg_cursor.specs.Entries.{pages_from}
+use Rattle.pg_cursor.specs.Ways.{ReadsAlong}
+use Rattle.pg_cursor.proofs.Along.{reads_nothing}
 use Rattle.pg_cursor.proofs.FirstPage.{end_from, walks_from}
 use Rattle.pg_cursor.proofs.Giving.{gives_front, gives_walked, none_on}
 use Rattle.pg_cursor.proofs.Walked.{page_later}
@@ -51,3 +53,9 @@ returns-clause-next g c = λ h.
           (none_on c.in_ok-tail.found (end_from first pages inside.queue c.args.acks.now c.args.txs.now c.args.last c.in_ok-tail.tail) end)
           c.in_ok-put_in.ensures.some c.in_ok-put_in.ensures.none;
     })
+
+pub returns-in-Some-clause-taken : goal.returns-in-Some-clause-taken
+returns-in-Some-clause-taken g c = λ h.
+    let now = account (g.D.Disk.tells c.args.disk.now) in
+    subst (λ (u : Cursor). ReadsAlong 18 u.tail c.self.inside.tail (pages_of (as_read now.files) u.address) now.taken now.taken) c.self.view_is
+    (reads_nothing (pages_of (as_read now.files) c.self.inside.address) c.self.inside.tail 18 now.taken now.taken (omega arith))

@@ -1,0 +1,5 @@
+use Rattle.pg_cursor_tests.proofs.Standing.{first_there}
+use Rattle.pg_cursor_tests.proofs.drains.counted_from.Goals as goal
+
+pub count-requires-clause-there : goal.count-requires-clause-there
+count-requires-clause-there c = λ honest. first_there c.new-cursor.result c.args.queue c.args.before c.args.first c.in_ok-last.last c.new-cursor.ensures.new _ c.requires c.in_ok-last.ensures.there
