@@ -1,8 +1,9 @@
-// The files of a directory, with positioned reads and writes. The files that were opened last stay open.
-ghost use Rattle.std.specs.Prelude.{◌≤◌, ◌<◌, IfOk, OnOk, IsSorted, length, vec_len};
+// The files of a directory, with positioned reads and writes. The files that were used last stay open.
+ghost use Rattle.std.specs.Prelude.{◌≤◌, ◌<◌, IfOk, OnOk, IsSorted, length};
 ghost use Rattle.pg_disk.specs.Files.{file_cmp};
 
 use crate::names::{file_id, file_name};
+use crate::open_files::OpenFiles;
 use pg_disk::FileId;
 use std::alloc::{AllocError, Global};
 use std::fs::{self, File, OpenOptions};
@@ -10,31 +11,13 @@ use std::io::{self, ErrorKind};
 use std::os::unix::fs::FileExt;
 use std::rt::Files;
 
-/// The most files that are open at a time, beside the directory itself.
-const MOST_OPEN: usize = 16;
-
-struct OpenFile {
-    id: FileId,
-    file: File,
-}
-
-impl Drop for OpenFile {
-    fn drop(self) {
-        let OpenFile {
-            id: _id,
-            file: _file,
-        } = self;
-    }
-}
-
 /// A directory. A call of the system that a signal interrupts is made again.
 pub(crate) struct Folder<R: Files<File = File>> {
     runtime: R,
     path: String,
     // The directory, locked, from the first call that asks something of it.
     directory: Option<File>,
-    // The files that are open, the oldest first.
-    files: Vec<OpenFile>,
+    files: OpenFiles<File>,
     // After a sync that failed the system may have dropped what it had still to write, and may answer the next one
     // well. So none is answered well from then on.
     sync_failed: bool,
@@ -55,7 +38,7 @@ impl<R: Files<File = File> + Drop> Drop for Folder<R> {
 impl<R: Files<File = File> + AllocGlobal + Clone + Drop> Folder<R> {
     /// Touches nothing yet.
     pub(crate) fn new(runtime: R, path: String) -> Self {
-        let files = Vec::new(runtime.alloc());
+        let files = OpenFiles::new(runtime.alloc());
         Folder {
             runtime,
             path,
@@ -93,8 +76,7 @@ impl<R: Files<File = File> + AllocGlobal + Clone + Drop> Folder<R> {
 
     /// In bytes.
     pub(crate) fn length(&mut self, id: FileId) -> io::Result<u64> {
-        let place = self.place(id)?;
-        let file = &self.files[place].file;
+        let file = self.file(id)?;
         Ok(uninterrupted(|| file.metadata())?.len())
     }
 
@@ -102,19 +84,16 @@ impl<R: Files<File = File> + AllocGlobal + Clone + Drop> Folder<R> {
     pub(crate) fn read(&mut self, id: FileId, at: u64, buf: &mut [u8]) -> io::Result<usize>
         ensures { IfOk result (λ n. n ≤ length buf.old) }
     {
-        let place = self.place(id)?;
-        fill(&self.files[place].file, at, buf)
+        fill(self.file(id)?, at, buf)
     }
 
     /// Writes all the bytes.
     pub(crate) fn write(&mut self, id: FileId, at: u64, bytes: &[u8]) -> io::Result<()> {
-        let place = self.place(id)?;
-        self.files[place].file.write_all_at(bytes, at)
+        self.file(id)?.write_all_at(bytes, at)
     }
 
     pub(crate) fn sync(&mut self, id: FileId) -> io::Result<()> {
-        let place = self.place(id)?;
-        let outcome = self.files[place].file.sync_data();
+        let outcome = self.file(id)?.sync_data();
         self.synced(outcome)
     }
 
@@ -123,14 +102,14 @@ impl<R: Files<File = File> + AllocGlobal + Clone + Drop> Folder<R> {
         self.lock()?;
         let path = self.path_of(id)?;
         let file = File::create_new(&self.runtime, path.as_str())?;
-        self.keep(id, file)?;
+        self.files.keep(id, file)?;
         self.sync_directory()
     }
 
     pub(crate) fn remove(&mut self, id: FileId) -> io::Result<()> {
         self.lock()?;
         let path = self.path_of(id)?;
-        self.files.retain(|opened| opened.id != id);
+        self.files.close(id);
         let runtime = &self.runtime;
         uninterrupted(|| fs::remove_file(runtime, path.as_str()))?;
         self.sync_directory()
@@ -143,12 +122,17 @@ impl<R: Files<File = File> + AllocGlobal + Clone + Drop> Folder<R> {
         format!(in alloc; "{directory}/{name}")
     }
 
-    // The file's place among the open ones, to which it comes where it isn't one of them.
-    fn place(&mut self, id: FileId) -> io::Result<usize>
-        ensures { IfOk result (λ place. place < vec_len self.new.files) }
+    fn file(&mut self, id: FileId) -> io::Result<&File> {
+        self.open(id)?;
+        Ok(self.files.latest())
+    }
+
+    // Opens the file, where it isn't open.
+    fn open(&mut self, id: FileId) -> io::Result<()>
+        ensures { IfOk result (λ _. 0 < length self.new.files) }
     {
-        if let Some(place) = self.files.iter().position(|opened| opened.id == id) {
-            return Ok(place);
+        if self.files.touch(id) {
+            return Ok(());
         }
         self.lock()?;
         let path = self.path_of(id)?;
@@ -156,21 +140,8 @@ impl<R: Files<File = File> + AllocGlobal + Clone + Drop> Folder<R> {
             .read(true)
             .write(true)
             .open(&self.runtime, path.as_str())?;
-        self.keep(id, file)
-    }
-
-    // Closes the oldest file where too many are open, and answers the new one's place.
-    fn keep(&mut self, id: FileId, file: File) -> io::Result<usize>
-        ensures { IfOk result (λ place. place < vec_len self.new.files) }
-    {
-        if self.files.len() >= MOST_OPEN {
-            self.files.remove(0);
-        }
-        let place = self.files.len();
-        self.files
-            .push(OpenFile { id, file })
-            .map_err(AllocError::from)?;
-        Ok(place)
+        self.files.keep(id, file)?;
+        Ok(())
     }
 
     // Opens the directory and locks it, where this isn't done yet. The lock is the system's advisory one. It is refused

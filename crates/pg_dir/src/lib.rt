@@ -5,6 +5,7 @@ mod dir_site;
 mod folder;
 mod in_source;
 mod names;
+mod open_files;
 mod standard;
 
 pub use dir_site::DirSite;

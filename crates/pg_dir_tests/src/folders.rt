@@ -179,6 +179,80 @@ fn reopens_files(rt: HostRuntime) -> Result<(), Fail> {
     Ok(())
 }
 
+// Page 1 of this address.
+fn page(address: u32) -> FileId {
+    FileId {
+        kind: Kind::Page,
+        owner: address,
+        number: 1,
+    }
+}
+
+// Whether the page of this address has the address in it.
+fn has_address(site: &mut Tried, address: u32) -> bool {
+    let mut buf = [0; 4];
+    site.read(page(address), 0, &mut buf) == Ok(4) && u32::from_be_bytes(buf) == address
+}
+
+// The first of 600 addresses whose page isn't made and written. More files are made than are kept open at a time.
+fn wrong_making(site: &mut Tried) -> Option<u32> {
+    for address in 1..601 {
+        if site.create(page(address)) != Ok(())
+            || site.write(page(address), 0, &u32::to_be_bytes(address)) != Ok(())
+        {
+            return Some(address);
+        }
+    }
+    None
+}
+
+// The first one whose page isn't read back and written again, where by turns the page of address 1 is read.
+fn wrong_turn(site: &mut Tried) -> Option<u32> {
+    for address in 1..601 {
+        if !has_address(site, address)
+            || !has_address(site, 1)
+            || site.write(page(address), 0, &u32::to_be_bytes(address)) != Ok(())
+        {
+            return Some(address);
+        }
+    }
+    None
+}
+
+fn wrong_page(site: &mut Tried) -> Option<u32> {
+    if let Some(address) = wrong_making(site) {
+        return Some(address);
+    }
+    if let Some(address) = wrong_turn(site) {
+        return Some(address);
+    }
+    wrong_turn(site)
+}
+
+// How many files this process has open, where the system tells it as Linux does, and else none.
+fn count_open(rt: &HostRuntime) -> usize {
+    let mut count: usize = 0;
+    if let Ok(entries) = fs::read_dir(rt, "/proc/self/fd") {
+        for _ in entries {
+            count = count.saturating_add(1);
+        }
+    }
+    count
+}
+
+#[test]
+fn keeps_few_of_many_pages_open(rt: HostRuntime) -> Result<(), Fail> {
+    let path = unused_path(&rt, "pages")?;
+    fs::create_dir(&rt, path.as_str())?;
+    let before = count_open(&rt);
+    let mut site = DirSite::new(rt, path.clone()?, Failing { room: 0 });
+    let wrong = wrong_page(&mut site);
+    let open = count_open(&rt).saturating_sub(before);
+    fs::remove_dir_all(&rt, path.as_str())?;
+    assert!(rt; wrong == None && open <= 513);
+    Ok(())
+}
+
 // A folder serves one site at a time: another one fails at its first call, and changes nothing. A site that is let go
 // leaves the folder to the next one.
 fn serves_one(rt: HostRuntime, path: &str) -> Result<bool, Fail> {

@@ -2,6 +2,9 @@ pub mod Positions
 pub mod PageRuns
 pub mod Standing
 pub mod Knowing
+pub mod Framing
+pub mod FrameKnowing
+pub mod Ids
 pub mod Runs
 pub mod Reopening
 pub mod Stepping

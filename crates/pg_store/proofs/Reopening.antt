@@ -30,6 +30,7 @@ module _ (store : PagingStore) (s t : States) (u : FileState) (last : ℕ) (is :
   open_stands = (
     opens.0,
     had,
+    subst (λ (n : ℕ). Writes store.writer opens.0 (t n)) (sym is) opens.2,
     λ closed place have. record {
       ready = open_ready;
       closed = closed;

@@ -1,5 +1,5 @@
 -- The calls by which pages are made and written, as changes of the pages of an address.
-use Rattle.std.proofs.Common.{◌≡◌, ℕ, ◌+◌, List, [], Option, None, sym, subst}
+use Rattle.std.proofs.Common.{◌≡◌, ℕ, ◌+◌, ◌<◌, List, [], Option, None, sym, subst}
 use Rattle.std.specs.FinMap.{get}
 use Rattle.pg_disk.specs.declared.disk.Disk.{Ghosts}
 use Rattle.pg_disk.specs.declared.file_id.FileId.{FileId}
@@ -16,7 +16,7 @@ use Rattle.pg_page.specs.Writing.{Adds, MayAdd, Writes, name_of, next_position}
 use Rattle.pg_store.specs.declared.store.NormalStore.{NormalStore}
 use Rattle.pg_store.specs.declared.store.PagingStore.{PagingStore}
 use Rattle.pg_store.specs.Pages.{ChangesPages, LeavesPages, Somehow}
-use Rattle.pg_store.specs.Stores.{LeavesNone, MayPage, Paged, Starts, address_of_normal, address_of_paging, first_of, first_of_normal, last_of}
+use Rattle.pg_store.specs.Stores.{LeavesNone, MayPage, Paged, Starts, address_of_normal, address_of_paging, first_of, first_of_normal, frames_in_last, last_of}
 use Rattle.pg_store.specs.Turning.{Keeps, Turns}
 use Rattle.pg_store.proofs.PageRuns.{page_changed, page_left, pages_left, pages_run, pages_then, pages_weaker}
 use Rattle.pg_store.proofs.Standing.{add_leaves, keeps_may, pages_added, rest_leaves, start_leaves, starts, turn_leaves, turned_leaves, turned_paged, turns, unstarted_leaves}
@@ -29,10 +29,10 @@ added store payload next place old new first last position wrote =
     page_changed (address_of_paging store) (last_of store) old new (Adds store.writer payload next.writer) (Paged store payload next place) wrote
     (λ s t adds same. pages_added store payload next place s t first last position adds same)
 
-pub adding : {D : Type 0} (m : Ghosts D) (store : PagingStore) (payload : List ℕ) (old new : D) → Within m old new (LeavesAt (name_of store.writer) (MayAdd store.writer payload)) → Within m old new (LeavesPages (address_of_paging store) (MayPage store payload))
-adding m store payload old new run =
+pub adding : {D : Type 0} (m : Ghosts D) (store : PagingStore) (payload : List ℕ) (old new : D) → frames_in_last store < 4294967295 → Within m old new (LeavesAt (name_of store.writer) (MayAdd store.writer payload)) → Within m old new (LeavesPages (address_of_paging store) (MayPage store payload))
+adding m store payload old new room run =
     weaker m old new (LeavesAt (name_of store.writer) (MayAdd store.writer payload)) (LeavesPages (address_of_paging store) (MayPage store payload)) run
-    (page_left (address_of_paging store) (last_of store) (m.tells old) (MayAdd store.writer payload) (MayPage store payload) (λ h left others own. add_leaves store payload _ left others own))
+    (page_left (address_of_paging store) (last_of store) (m.tells old) (MayAdd store.writer payload) (MayPage store payload) (λ h left others own. add_leaves store payload _ left room others own))
 
 -- ---- a page is made, whose file goes by this name
 

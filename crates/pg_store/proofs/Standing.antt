@@ -1,5 +1,5 @@
 -- What a store stands for, as pages are made and written.
-use Rattle.std.proofs.Common.{◌≡◌, ◌≢◌, ◌⊎◌, inl, inr, ⊎_elim, ℕ, ◌+◌, ◌≤◌, List, [], ◌∷◌, ◌++◌, length, Option, Some, None, refl, sym, ◌∙◌, ap, subst, arith, length-append}
+use Rattle.std.proofs.Common.{◌≡◌, ◌≢◌, ◌⊎◌, inl, inr, ⊎_elim, ℕ, ◌+◌, ◌<◌, ◌≤◌, List, [], ◌∷◌, ◌++◌, length, Option, Some, None, refl, sym, ◌∙◌, ap, subst, arith, length-append}
 use Rattle.std.proofs.lemmas.List.{append-nil}
 use Rattle.pg_acks.specs.declared.position.Position.{Position}
 use Rattle.pg_disk.specs.Account.{FileState}
@@ -13,7 +13,7 @@ use Rattle.pg_page.specs.Writing.{Adds, MayAdd, Writes, next_position}
 use Rattle.pg_store.specs.declared.store.NormalStore.{NormalStore}
 use Rattle.pg_store.specs.declared.store.PagingStore.{PagingStore}
 use Rattle.pg_store.specs.Pages.{HasOldOrMore, States, SurelyHas, SurelyHave}
-use Rattle.pg_store.specs.Stores.{IsNormal, IsPaging, LeavesNone, MayPage, Paged, StandsPaging, Starts, first_of, first_of_normal, last_of}
+use Rattle.pg_store.specs.Stores.{IsNormal, IsPaging, LeavesNone, MayPage, Paged, StandsPaging, Starts, first_of, first_of_normal, frames_in_last, last_of}
 use Rattle.pg_store.specs.Turning.{Keeps, Turns}
 use Rattle.pg_store.proofs.Positions.{have_more, have_still, left_behind, none_left, positioned-last, positioned-none}
 
@@ -116,9 +116,9 @@ module _ (store : PagingStore) (entries : List Entry) (s : States) (stands : Sta
       are = ap (λ (l : List Entry). l ++ (position_at (first_of store + length stands.closed) (length last_payloads), payload) ∷ []) stands.are ∙ sym (positioned-last (first_of store) stands.closed last_payloads payload);
     }
 
-    pub old_or_more : (payload : List ℕ) → HasOldOrNew last_payloads payload (left (last_of store)) → HasOldOrMore (first_of store) entries payload left
-    old_or_more payload (inl has) = inl (old_last has)
-    old_or_more payload (inr has) = inr (position_at (first_of store + length stands.closed) (length last_payloads), new_last payload has)
+    pub old_or_more : (payload : List ℕ) → frames_in_last store < 4294967295 → HasOldOrNew last_payloads payload (left (last_of store)) → HasOldOrMore (first_of store) entries payload left
+    old_or_more payload room (inl has) = inl (old_last has)
+    old_or_more payload room (inr has) = inr (position_at (first_of store + length stands.closed) (length last_payloads), omega (arith, room, stands.ready.written.1.count), new_last payload has)
 
 -- nothing was done
 pub rest_leaves : (store : PagingStore) (s : States) (left : Pages) → ((page : ℕ) → IsLeftAt (s page) (left page)) → Keeps store s left
@@ -156,8 +156,8 @@ module _ (store next : PagingStore) (s t : States) (first : first_of next ≡ fi
 
 -- ---- the last page is written
 
-pub add_leaves : (store : PagingStore) (payload : List ℕ) (s : States) (left : Pages) → ((other : ℕ) → other ≢ last_of store → IsLeftAt (s other) (left other)) → MayAdd store.writer payload (s (last_of store)) (left (last_of store)) → MayPage store payload s left
-add_leaves store payload s left others own entries stands = old_or_more store entries s stands left others payload (own stands.ready.written.0 stands.ready.written.1)
+pub add_leaves : (store : PagingStore) (payload : List ℕ) (s : States) (left : Pages) → frames_in_last store < 4294967295 → ((other : ℕ) → other ≢ last_of store → IsLeftAt (s other) (left other)) → MayAdd store.writer payload (s (last_of store)) (left (last_of store)) → MayPage store payload s left
+add_leaves store payload s left room others own entries stands = old_or_more store entries s stands left others payload room (own stands.ready.written.0 stands.ready.written.1)
 
 module _ (store : PagingStore) (payload : List ℕ) (next : PagingStore) (place : Place) (s t : States) (first : first_of next ≡ first_of store) (last : last_of next ≡ last_of store) (position : place.position ≡ next_position store.writer)
     (adds : Adds store.writer payload next.writer (s (last_of store)) (t (last_of store))) (same : (other : ℕ) → other ≢ last_of store → t other ≡ s other) where

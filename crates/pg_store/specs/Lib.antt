@@ -1,3 +1,4 @@
 pub mod Pages
 pub mod Stores
+pub mod Framed
 pub mod Turning

@@ -1,8 +1,8 @@
 -- The page files of an address as a disk tells of them, and how calls change them.
-use Rattle.std.specs.Prelude.{◌≡◌, ◌⊎◌, ◌≤◌, ◌+◌, ℕ, List, [], ◌∷◌, ◌++◌, Option, Some, None}
+use Rattle.std.specs.Prelude.{◌≡◌, ◌⊎◌, ◌<◌, ◌≤◌, ◌+◌, ℕ, List, [], ◌∷◌, ◌++◌, Option, Some, None}
 use Rattle.std.specs.FinMap.{FinMap, get}
 use Rattle.pg_acks.specs.declared.position.Position.{Position}
-use Rattle.pg_disk.specs.Account.{FileState, Account}
+use Rattle.pg_disk.specs.Account.{FileState, Account, IsQuietAt}
 use Rattle.pg_disk.specs.Calls.{ChangesWhere, ReadsNone}
 use Rattle.pg_disk.specs.Files.{file_cmp, Files}
 use Rattle.pg_disk.specs.Image.{IsLeftAt, LeavesBeside}
@@ -55,10 +55,12 @@ abbrev pub LeavesPages : ℕ → (States → Pages → Type 0) → Option Accoun
 LeavesPages address P =
     LeavesBeside (IsPageOf address) (λ files c. P (states_of files address) (pages_of (as_left c) address))
 
--- the payloads are these, or this one stands behind them, at some position
+-- The payloads are these, or this one stands behind them, at a position that pages have: at most 4,294,967,295 payloads
+-- stand in one.
 abbrev pub HasOldOrMore : ℕ → List Entry → List ℕ → Pages → Type 0
 HasOldOrMore first entries payload pages = HasEntries first entries pages
-    ⊎ ((position : Position) × HasEntries first (entries ++ (position, payload) ∷ []) pages)
+    ⊎ ((position : Position) × (position.index < 4294967295)
+    × HasEntries first (entries ++ (position, payload) ∷ []) pages)
 
 -- each page of the address is as it was: these files are equal, one by one
 abbrev pub SamePages : ℕ → FilesNow → FilesNow → Type 0
@@ -68,3 +70,8 @@ SamePages address files now = (page : ℕ) → get now (page_file address page) 
 abbrev pub LeftPages : ℕ → FilesNow → Files → Type 0
 LeftPages address files c =
     (page : ℕ) → IsLeftAt (get files (page_file address page)) (get c (page_file address page))
+
+-- nothing is pending of any page before the last one
+abbrev pub QuietBefore : Option ℕ → States → Type 0
+QuietBefore None states = Unit {0}
+QuietBefore (Some last) states = (page : ℕ) → page < last → IsQuietAt (states page)

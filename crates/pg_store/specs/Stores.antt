@@ -4,7 +4,7 @@ use Rattle.pg_disk.specs.Views.{bytes_of}
 use Rattle.pg_gate.specs.Gated.{HasBatches}
 use Rattle.pg_page.specs.declared.place.Place.{Place}
 use Rattle.pg_page.specs.Pages.{Entry, HasEntries, Pages, position_at, positioned}
-use Rattle.pg_page.specs.Writing.{HasRoom, IsWritten, address_of, counted_of, frames_of, next_position, page_of}
+use Rattle.pg_page.specs.Writing.{HasRoom, IsWritten, Writes, address_of, counted_of, frames_of, next_position, page_of}
 use Rattle.pg_store.specs.declared.store.NormalStore.{NormalStore}
 use Rattle.pg_store.specs.declared.store.PagingStore.{PagingStore}
 use Rattle.pg_store.specs.declared.store.Store.{Store}
@@ -111,10 +111,11 @@ abbrev pub HasNoSpace : PagingStore → ℕ → ℕ → Type 0
 HasNoSpace store size limit = (HasRoom store.writer size limit × (2 ^ 62 < counted_in_last store + size + 9))
     ⊎ ((HasRoom store.writer size limit → ⊥) × ((2 ^ 62 < last_of store + 1) ⊎ (2 ^ 62 < size + 10)))
 
--- The last page had these payloads as it read. The store stands for them behind those of the pages before it, whatever
--- these are.
+-- The last page had these payloads as it read, and has them now. The store stands for them behind those of the pages
+-- before it, whatever these are.
 abbrev pub ReopensPaging : PagingStore → States → States → Type 0
 ReopensPaging store s t = (payloads : List (List ℕ)) × HasBatches payloads (bytes_of (s (last_of store)))
+    × Writes store.writer payloads (t (last_of store))
     × ((closed : List (List (List ℕ))) → last_of store ≡ first_of store + length closed
     → SurelyHave (first_of store) closed s
     → StandsPaging store (positioned (first_of store) (closed ++ payloads ∷ [])) t)

@@ -13,7 +13,7 @@ use std::alloc::{AllocError, Global};
 use std::test::Fail;
 
 // The page of the address 3 with this number.
-fn file(number: u64) -> FileId {
+pub(crate) fn file(number: u64) -> FileId {
     FileId {
         kind: Kind::Page,
         owner: 3,
@@ -157,7 +157,7 @@ fn a_frame_goes_to_the_last_page_or_to_a_new_one(rt: HostRuntime) -> Result<(), 
     Ok(())
 }
 
-const PICKS: [Pick; 5] = [
+pub(crate) const PICKS: [Pick; 5] = [
     Pick::Old,
     Pick::New,
     Pick::Fill(0),

@@ -1,0 +1,5 @@
+use Rattle.pg_store_tests.proofs.Empty.{nothing_yet}
+use Rattle.pg_store_tests.proofs.opened.wrong_stop.Goals as goal
+
+pub make-requires : goal.make-requires
+make-requires c = λ honest. nothing_yet 6 _ c.new-site.ensures.empty
