@@ -5,7 +5,7 @@ use Rattle.std.proofs.lemmas.Cmp.{nat_cmp_total, on_total, then_total}
 use Rattle.std.specs.Cmp.{IsTotalOrder}
 use Rattle.std.specs.Ordering.{is_gt, is_lt}
 use Rattle.std.specs.BTreeMap.{is_at}
-use Rattle.pg_acks.specs.Runs.{At, Key, at_cmp, key_cmp, same_at}
+use Rattle.pg_acks.specs.Keys.{At, Key, at_cmp, key_cmp, same_at}
 
 pub at_total : IsTotalOrder at_cmp
 at_total = then_total (on_total (λ at. at.0) nat_cmp_total) (on_total (λ at. at.1) nat_cmp_total)

@@ -1,22 +1,25 @@
 -- The order of rows and pages.
-use Rattle.std.proofs.Common.{◌≡◌, ◌+◌, ◌<◌, ◌⊎◌, ℕ, List, [], ◌∷◌, map, inl, inr, subst, arith}
+use Rattle.std.proofs.Common.{◌≡◌, ◌+◌, ◌<◌, ◌⊎◌, ℕ, List, [], ◌∷◌, map, inl, inr, sym, subst, arith}
 use Rattle.std.proofs.lemmas.Grind.{common_steps}
 use Rattle.std.proofs.lemmas.Bool.{cases_eq}
 use Rattle.std.proofs.lemmas.List.Elements.{All-head, All-tail}
 use Rattle.std.proofs.lemmas.Map.Keys.{sorted_head, sorted_tail}
 use Rattle.std.proofs.lemmas.Map.Views.{All-found}
-use Rattle.std.specs.Prelude.{All, Some, IsSome}
+use Rattle.std.specs.Prelude.{All, Result, Ok, Err, IfOk, Some, IsSome}
 use Rattle.std.specs.List.{AllByRecursion}
 use Rattle.std.specs.List.Sorted.{IsStrictlySortedBy}
 use Rattle.std.specs.Map.{keys_of}
 use Rattle.std.specs.declared.cmp.Ordering.TheVariants.{Less}
 use Rattle.std.specs.Ordering.{nat_cmp}
 use Rattle.std.specs.BTreeMap.{BTreeMap, get}
+use Rattle.std.specs.BTreeSet as sorted
 use Rattle.std.specs.BTreeSet.{BTreeSet}
-use Rattle.pg_acks.specs.Acked.{AreInOrder, AreLongestRuns, ArePagesInOrder, IsBehind, IsPageBehind}
-use Rattle.pg_acks.specs.Kept.{AreKept, RunsAreKept, row_of, seen}
-use Rattle.pg_acks.specs.Runs.{At, Key, at_cmp, key_cmp}
+use Rattle.pg_acks.specs.declared.row.AckRow.{AckRow}
+use Rattle.pg_acks.specs.Acked.{AreLongestRuns, ArePagesInOrder, ArePagesOf, AreRowsOf, IsBehind, IsPageBehind}
+use Rattle.pg_acks.specs.Kept.{RunsAreKept, row_of, seen}
+use Rattle.pg_acks.specs.Keys.{At, Key, at_cmp, key_cmp}
 use Rattle.pg_acks.proofs.Keys.{key_total}
+use Rattle.pg_acks.proofs.Seeing.{pages_seen, rows_seen}
 
 nat_less : (a b : ℕ) → nat_cmp a b ≡ Less → a < b
 nat_less a b less = grind (arith, common_steps, less)
@@ -80,5 +83,16 @@ longest runs (e ∷ es) kept found sorted =
 pub longest_runs : (runs : BTreeMap Key ℕ) → RunsAreKept runs → AreLongestRuns (map row_of runs.entries)
 longest_runs runs kept = longest runs runs.entries kept (All-found key_total runs kept.ordered) kept.ordered
 
-pub in_order : (runs : BTreeMap Key ℕ) (pages : BTreeSet At) → AreKept runs pages → AreInOrder (seen runs pages)
-in_order runs pages kept = record { rows = longest_runs runs kept.singles; pages = pages_in_order pages.keys kept.wholes }
+-- what a value has, another fact on it tells
+pub if_ok_map : {T E : Type 0} (r : Result T E) (P Q : T → Type 0) → ((x : T) → P x → Q x) → IfOk r P → IfOk r Q
+if_ok_map (Ok x) P Q tells has = tells x has
+if_ok_map (Err e) P Q tells has = has
+
+-- the runs as rows, and the pages, are those of the sets
+pub rows_told : (runs : BTreeMap Key ℕ) (pages : BTreeSet At) → RunsAreKept runs → (rows : List AckRow) → rows ≡ map row_of runs.entries → AreRowsOf (seen runs pages) rows
+rows_told runs pages kept rows is =
+    subst (AreRowsOf (seen runs pages)) (sym is) (record { longest = longest_runs runs kept; told = λ queue position. rows_seen runs pages queue position })
+
+pub pages_told : (runs : BTreeMap Key ℕ) (pages : BTreeSet At) → sorted.IsOrdered at_cmp pages → (told : List At) → told ≡ pages.keys → ArePagesOf (seen runs pages) told
+pages_told runs pages ordered told is =
+    subst (ArePagesOf (seen runs pages)) (sym is) (record { ascending = pages_in_order pages.keys ordered; told = λ queue page. pages_seen runs pages queue page })

@@ -7,7 +7,7 @@ use Rattle.std.specs.List.{AllByRecursion, list_any}
 use Rattle.pg_acks.specs.declared.position.Position.{Position}
 use Rattle.pg_acks.specs.declared.row.AckRow.{AckRow}
 use Rattle.pg_acks.specs.Acked.{AreLongestRuns, ArePagesInOrder, IsBehind, IsPageBehind, row_has}
-use Rattle.pg_acks.proofs.Seeing.{same_tests}
+use Rattle.pg_acks.proofs.Sets.{same_tests}
 
 abbrev has : List AckRow → ℕ → Position → Bool
 has rows queue position = list_any (row_has queue position) rows

@@ -5,7 +5,8 @@ use Rattle.std.proofs.lemmas.Bool.{cases_Bool, cases_eq, cases_lt}
 use Rattle.std.proofs.lemmas.Bool.Decides.{nat_tests}
 use Rattle.std.specs.Prelude.{Option, Some, None}
 use Rattle.std.specs.BTreeMap.{BTreeMap, Updates}
-use Rattle.pg_acks.specs.Runs.{AreRuns, At, Key, joined, key_cmp, same_at, starts}
+use Rattle.pg_acks.specs.Keys.{At, Key, key_cmp, same_at}
+use Rattle.pg_acks.specs.Runs.{AreRuns, joined, starts}
 use Rattle.pg_acks.proofs.Joining.{none_past}
 use Rattle.pg_acks.proofs.Keys.{finds_key, same_ats}
 

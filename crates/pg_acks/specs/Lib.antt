@@ -1,3 +1,4 @@
 pub mod Acked
 pub mod Kept
+pub mod Keys
 pub mod Runs

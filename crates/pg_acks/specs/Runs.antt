@@ -1,27 +1,9 @@
 -- The runs of one page: from the first index of each to its last.
-use Rattle.std.specs.Prelude.{◌≡◌, ◌<◌, ◌≤◌, ◌+◌, ◌==◌, ◌&&◌, ◌⊎◌, ◌^◌, ℕ, Bool, Option, Some, None, IsSome, if◌then◌else◌}
-use Rattle.std.specs.declared.cmp.Ordering.{Ordering}
-use Rattle.std.specs.Ordering.{nat_cmp, ordering_then}
+use Rattle.std.specs.Prelude.{◌≡◌, ◌<◌, ◌≤◌, ◌+◌, ◌==◌, ◌⊎◌, ◌^◌, ℕ, Option, Some, None, IsSome, if◌then◌else◌}
 use Rattle.std.specs.BTreeMap.{BTreeMap, get}
+use Rattle.pg_acks.specs.Keys.{At, Key, key_cmp}
 
--- a queue and one of its pages
-abbrev pub At : Type 0
-At = ℕ × ℕ
-
-abbrev pub at_cmp : At → At → Ordering
-at_cmp a b = ordering_then (nat_cmp a.0 b.0) (nat_cmp a.1 b.1)
-
--- by what a run is kept
-abbrev pub Key : Type 0
-Key = At × ℕ
-
-abbrev pub key_cmp : Key → Key → Ordering
-key_cmp a b = ordering_then (at_cmp a.0 b.0) (nat_cmp a.1 b.1)
-
-abbrev pub same_at : At → At → Bool
-same_at a b = (b.0 == a.0) && (b.1 == a.1)
-
--- the last index of the run that begins there
+-- A run is kept by its queue and page and by its first index. This is the last index of the one that begins there.
 abbrev pub starts : BTreeMap Key ℕ → At → ℕ → Option ℕ
 starts runs at first = get key_cmp runs (at, first)
 
@@ -39,6 +21,13 @@ pub record Covers (run : ℕ → Option ℕ) (index : ℕ) : Type 0 where
   pub from : first ≤ index
   pub to : index ≤ last
 
+-- a run has one of the indexes between these
+pub record CoversAny (run : ℕ → Option ℕ) (from to : ℕ) : Type 0 where
+  pub index : ℕ
+  pub low : from ≤ index
+  pub high : index ≤ to
+  pub covers : Covers run index
+
 -- With the index, a run begins there: at the index, which no run has and right before which none ends, or at the first
 -- of the run that ends right before it.
 abbrev pub BeginsAt : (ℕ → Option ℕ) → ℕ → ℕ → Type 0
@@ -50,6 +39,6 @@ BeginsAt run index first =
 abbrev pub EndsAt : (ℕ → Option ℕ) → ℕ → ℕ → Type 0
 EndsAt run index last = ((last ≡ index) × (run (index + 1) ≡ None)) ⊎ (run (index + 1) ≡ Some last)
 
--- the runs where one from the first to the last is put in place of those that the index joins
+-- the runs where one from the first to the last is put in place of those that a run up to the index joins
 abbrev pub joined : (ℕ → Option ℕ) → ℕ → ℕ → ℕ → ℕ → Option ℕ
 joined run first index last other = if other == index + 1 then None else if other == first then Some last else run other

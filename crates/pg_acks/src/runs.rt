@@ -1,12 +1,14 @@
 // Runs of indexes, by their queue and page and by their first index.
-ghost use Rattle.std.specs.Prelude.{◌≡◌, ◌<◌, ◌≤◌, ◌^◌, ◌↔◌, ℕ, map, IsTrue, Some, None, IsSome, IfSome, IfNone, IfOk, OnOk, OnErr, if◌then◌else◌};
+ghost use Rattle.std.specs.Prelude.{◌≡◌, ◌==◌, ◌<◌, ◌≤◌, ◌^◌, ◌↔◌, ℕ, not, map, filter, IsTrue, Some, None, IsSome, IfSome, IfNone, IfOk, OnOk, OnErr, if◌then◌else◌};
 ghost use Rattle.std.specs.BTreeMap.{IsOrdered};
+ghost use Rattle.std.specs.BTreeSet as sorted;
 ghost use Rattle.pg_acks.specs.Kept.{row_of};
-ghost use Rattle.pg_acks.specs.Runs.{AreRuns, At, BeginsAt, Covers, EndsAt, joined, key_cmp, same_at, starts};
+ghost use Rattle.pg_acks.specs.Keys.{At, at_cmp, key_cmp, same_at};
+ghost use Rattle.pg_acks.specs.Runs.{AreRuns, BeginsAt, Covers, CoversAny, EndsAt, joined, starts};
 
 use crate::row::AckRow;
 use std::alloc::{AllocError, Global};
-use std::collections::BTreeMap;
+use std::collections::{BTreeMap, BTreeSet};
 
 // By what a run is kept: its queue and its page, and its first index.
 pub(crate) type Key = ((u32, u64), u32);
@@ -37,23 +39,28 @@ pub(crate) fn has_index(runs: &BTreeMap<Key, u32>, at: (u32, u64), index: u32) -
     }
 }
 
-// The first index of the run that the index is the end of, once it is there. None where a run has it already.
-pub(crate) fn first_with(runs: &BTreeMap<Key, u32>, at: (u32, u64), index: u32) -> Option<u32>
-    requires { AreRuns (starts runs.now at) }
-    ensures begins { IfSome result (BeginsAt (starts runs.now at) index) }
-    ensures there { IfNone result (Covers (starts runs.now at) index) }
+// Whether a run of the page has an index from the one to the other.
+pub(crate) fn has_between(runs: &BTreeMap<Key, u32>, at: (u32, u64), from: u32, to: u32) -> bool
+    requires runs { AreRuns (starts runs.now at) }
+    requires order { from ≤ to }
+    ensures { IsTrue result ↔ CoversAny (starts runs.now at) from to }
+{
+    match last_from(runs, at, to) {
+        Some((_, last)) => from <= last,
+        None => false,
+    }
+}
+
+// The first index of the run that the index, which no run has, is the end of, once it is there.
+pub(crate) fn first_with(runs: &BTreeMap<Key, u32>, at: (u32, u64), index: u32) -> u32
+    requires runs { AreRuns (starts runs.now at) }
+    requires new { Covers (starts runs.now at) index → ⊥ }
+    ensures { BeginsAt (starts runs.now at) index result }
 {
     let Some((first, last)) = last_from(runs, at, index) else {
-        return Some(index);
+        return index;
     };
-    if index <= last {
-        return None;
-    }
-    if last + 1 == index {
-        Some(first)
-    } else {
-        Some(index)
-    }
+    if last + 1 == index { first } else { index }
 }
 
 // The last index of the run that the index is the beginning of, once it is there.
@@ -71,8 +78,8 @@ pub(crate) fn last_with(runs: &BTreeMap<Key, u32>, at: (u32, u64), index: u32) -
     }
 }
 
-// Puts one run in place of those that the index joins. Fails only where there is no memory for it, and then nothing
-// has changed.
+// Puts one run in place of those that a run up to the index joins. Fails only where there is no memory for it, and then
+// nothing has changed.
 pub(crate) fn join(
     runs: &mut BTreeMap<Key, u32>,
     at: (u32, u64),
@@ -106,6 +113,22 @@ pub(crate) fn take_page(runs: &mut BTreeMap<Key, u32>, at: (u32, u64))
     }
 }
 
+// Takes all runs of the queue out.
+pub(crate) fn drop_runs(runs: &mut BTreeMap<Key, u32>, queue: u32)
+    ensures left { runs.new.entries ≡ filter (λ run. not (run.0.0.0 == queue)) runs.old.entries }
+    ensures ordered { IsOrdered key_cmp runs.new }
+{
+    runs.retain(|key, _| key.0.0 != queue);
+}
+
+// Takes all pages of the queue out.
+pub(crate) fn drop_pages(pages: &mut BTreeSet<(u32, u64)>, queue: u32)
+    ensures left { pages.new.keys ≡ filter (λ at. not (at.0 == queue)) pages.old.keys }
+    ensures ordered { sorted.IsOrdered at_cmp pages.new }
+{
+    pages.retain(|at| at.0 != queue);
+}
+
 // The runs as rows, in their order. Fails only where there is no memory for them.
 pub(crate) fn rows_of(runs: &BTreeMap<Key, u32>, alloc: Global) -> Result<Vec<AckRow>, AllocError>
     ensures { IfOk result (λ rows. rows.items ≡ map row_of runs.now.entries) }
@@ -120,4 +143,14 @@ pub(crate) fn rows_of(runs: &BTreeMap<Key, u32>, alloc: Global) -> Result<Vec<Ac
         })?;
     }
     Ok(rows)
+}
+
+// The pages, in their order. Fails only where there is no memory for them.
+pub(crate) fn pages_of(
+    pages: &BTreeSet<(u32, u64)>,
+    alloc: Global,
+) -> Result<Vec<(u32, u64)>, AllocError>
+    ensures { IfOk result (λ all. all.items ≡ pages.now.keys) }
+{
+    pages.iter().copied().collect(alloc)
 }

@@ -1,7 +1,8 @@
 use Rattle.std.proofs.Common.{◌≡◌, ◌≤◌, ◌^◌, ℕ, false}
 use Rattle.std.specs.Prelude.{None}
 use Rattle.std.specs.BTreeMap as tree
-use Rattle.pg_acks.specs.Runs.{At, same_at, starts}
+use Rattle.pg_acks.specs.Keys.{At, same_at}
+use Rattle.pg_acks.specs.Runs.{starts}
 use Rattle.pg_acks.proofs.runs.take_page.Given as goal
 
 -- other pages stay as they are, and no run of this one begins past 32 bits

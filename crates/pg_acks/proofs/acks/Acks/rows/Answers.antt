@@ -1,7 +1,11 @@
-use Rattle.std.proofs.Common.{subst}
-use Rattle.pg_acks.specs.Acked.{AckSets, AreLongestRuns}
-use Rattle.pg_acks.proofs.Ordering.{longest_runs}
+use Rattle.std.proofs.Common.{◌≡◌, map, subst}
+use Rattle.pg_acks.specs.Acked.{AckSets, AreRowsOf}
+use Rattle.pg_acks.specs.Kept.{row_of}
+use Rattle.pg_acks.proofs.Ordering.{if_ok_map, rows_told}
 use Rattle.pg_acks.proofs.acks.Acks.rows.Goals as goal
 
-pub returns-clause-longest : goal.returns-clause-longest
-returns-clause-longest c = subst (λ (acks : AckSets). AreLongestRuns acks.rows) c.self.view_is (longest_runs c.self.inside.runs c.self.invariant.singles)
+pub returns : goal.returns
+returns c =
+    if_ok_map c.rows_of.result (λ rows. rows.items ≡ map row_of c.self.inside.runs.entries) (λ rows. AreRowsOf c.args.self.now rows.items)
+    (λ rows is. subst (λ (acks : AckSets). AreRowsOf acks rows.items) c.self.view_is (rows_told c.self.inside.runs c.self.inside.pages c.self.invariant.singles rows.items is))
+    c.rows_of.ensures
