@@ -63,7 +63,7 @@ module _ (pages : Pages) where
     pub reads_place : (place : Place) (before between after : ℕ) → IsNext tail (Some place) pages → between ≤ before + 18 → ReadsAt place pages between after → ReadsAlong 0 tail (Behind place) pages before after
     reads_place place before between after next few reads =
         let stands = next.0 in
-        let has : HasPayload pages place stands.is.1 = record { bytes = stands.bytes; there = stands.there; short = stands.short; before = stands.is.0; at = stands.is.2 } in record {
+        let has : HasPayload pages place stands.is.1 = record { bytes = stands.bytes; there = stands.there; before = stands.is.0; fit = stands.fit; at = stands.is.2 } in record {
           way = (place, stands.is.1) ∷ [];
           passes = (
             record {

@@ -37,9 +37,9 @@ module _ (first : ℕ) (pages : Pages) where
   frame_on place frame has = record {
     bytes = has.bytes;
     there = (there_on place.position.page has.bytes has.there).0;
-    short = has.short;
     before = has.before;
     payload = has.payload;
+    fit = has.fit;
     at = has.at;
     spelled = has.spelled;
   }
@@ -48,9 +48,9 @@ module _ (first : ℕ) (pages : Pages) where
   frame_from place frame later has = record {
     bytes = has.bytes;
     there = there_from place.position.page later ∙ has.there;
-    short = has.short;
     before = has.before;
     payload = has.payload;
+    fit = has.fit;
     at = has.at;
     spelled = has.spelled;
   }
@@ -83,8 +83,8 @@ module _ (first : ℕ) (pages : Pages) where
     tail_from (Behind place) later stands = record {
       bytes = stands.bytes;
       there = there_from place.position.page later ∙ stands.there;
-      short = stands.short;
       is = stands.is;
+      fit = stands.fit;
     }
 
     pub not_passed : (tail : Tail) (place : Place) → (IsPassed tail place.position → ⊥) → page_of tail ≤ place.position.page

@@ -1,21 +1,22 @@
 -- What stands at places of whole pages are the frames of their list.
-use Rattle.std.proofs.Common.{◌≡◌, ◌⊎◌, ◌+◌, ◌==◌, ℕ, true, false, List, [], ◌∷◌, ◌++◌, length, refl, sym, ◌∙◌, ap, subst, inl, inr, arith, append_assoc}
+use Rattle.std.proofs.Common.{◌≡◌, ◌⊎◌, ◌<◌, ◌+◌, ◌^◌, ◌==◌, ℕ, true, false, List, [], ◌∷◌, ◌++◌, length, refl, sym, ◌∙◌, ap, subst, inl, inr, arith, append_assoc}
 use Rattle.std.specs.List.{Contains}
 use Rattle.std.proofs.lemmas.Bool.{cases_Bool}
 use Rattle.std.proofs.lemmas.Grind.{common_steps}
 use Rattle.std.proofs.lemmas.List.Elements.{Contains-append_cases, Contains-append_left, Contains-append_right, Contains-push, Contains-push_cases}
 use Rattle.pg_acks.specs.declared.position.Position.{Position}
-use Rattle.pg_gate.specs.Gated.{opened}
+use Rattle.pg_gate.specs.Gated.{opened, AllFit}
 use Rattle.pg_page.specs.declared.frame.Frame.{Frame}
 use Rattle.pg_page.specs.declared.place.Place.{Place}
-use Rattle.pg_page.specs.Frames.{SpellsFrame}
-use Rattle.pg_page.specs.Pages.{Entry, HasFrames, Pages, SpellFrames, position_at}
+use Rattle.pg_page.specs.Frames.{SpellsFrame, frame_bytes}
+use Rattle.pg_page.specs.Pages.{AllEntriesFit, Entry, HasEntries, HasFrames, Pages, SpellFrames, position_at}
 use Rattle.pg_page.proofs.FrameLaws.{same_frame}
-use Rattle.pg_cursor.specs.Changes.{AreShort}
+use Rattle.pg_page.proofs.PageLaws.{all_front, entries_fit}
+use Rattle.pg_cursor.specs.Changes.{IsAppended}
 use Rattle.pg_cursor.specs.Entries.{HasFrame, pages_from}
 use Rattle.pg_cursor.proofs.FirstPage.{there_from, there_on}
 use Rattle.pg_cursor.proofs.Kept.{stands_in}
-use Rattle.pg_cursor.proofs.Listed.{Indexed, as_long, indexed, on_page, one_longer, stands_listed}
+use Rattle.pg_cursor.proofs.Listed.{Indexed, as_long, indexed, on_page, one_longer, page_fit, stands_listed}
 
 abbrev Framed : Type 0
 Framed = Position × Frame
@@ -90,7 +91,7 @@ frame_listed before (entry ∷ entries) frames page xs zs payload index spells i
 pub listed : (first : ℕ) (frames : List Framed) (pages : Pages) → HasFrames first frames pages → (place : Place) (frame : Frame) → HasFrame (pages_from first pages) place frame → Contains frames (place.position, frame)
 listed first frames pages has place frame stands =
     let on = there_on first pages place.position.page stands.bytes stands.there in
-    let here = stands_listed first has.entries pages has.has place stands.bytes stands.before stands.payload on.1 on.0 stands.short stands.at in
+    let here = stands_listed first has.entries pages has.has (entries_fit has.entries frames has.spelled) place stands.bytes stands.before stands.payload on.1 on.0 stands.fit stands.at in
     let is = frame_listed [] has.entries frames place.position.page stands.before here.0 stands.payload (indexed first has.entries pages has.has) has.spelled (here.1 ∙ append_assoc stands.before (stands.payload ∷ []) here.0) in
     subst (λ (f : Frame). Contains frames (place.position, f)) (same_frame stands.payload is.0 frame is.1 stands.spelled)
     (subst (λ (n : ℕ). Contains frames (position_at place.position.page n, is.0)) (omega (arith, stands.at.index)) is.2)
@@ -146,20 +147,52 @@ frame_placed before (entry ∷ entries) frames position frame index spells has =
       index = omega (arith, later.index, as_long position.page before entry apart);
     }
 
-pub placed : (first : ℕ) (frames : List Framed) (pages : Pages) → HasFrames first frames pages → AreShort pages → (position : Position) (frame : Frame) → Contains frames (position, frame) → (place : Place) × (place.position ≡ position) × HasFrame (pages_from first pages) place frame
-placed first frames pages has short position frame contains =
+pub placed : (first : ℕ) (frames : List Framed) (pages : Pages) → HasFrames first frames pages → (position : Position) (frame : Frame) → Contains frames (position, frame) → (place : Place) × (place.position ≡ position) × HasFrame (pages_from first pages) place frame
+placed first frames pages has position frame contains =
     let at = frame_placed [] has.entries frames position frame (indexed first has.entries pages has.has) has.spelled contains in
     let place : Place = record { position = position; offset = length (opened at.front) + 9 } in
-    let stands = stands_in first has.entries pages has.has place at.front at.behind at.payload (at.is ∙ sym (append_assoc at.front (at.payload ∷ []) at.behind)) refl (omega (arith, at.index)) in (
+    let stands = stands_in first has.entries pages has.has place at.front at.behind at.payload (at.is ∙ sym (append_assoc at.front (at.payload ∷ []) at.behind)) refl (omega (arith, at.index)) in
+    let fit : AllFit ((at.front ++ at.payload ∷ []) ++ at.behind) =
+    subst AllFit (at.is ∙ sym (append_assoc at.front (at.payload ∷ []) at.behind)) (page_fit position.page has.entries (entries_fit has.entries frames has.spelled)) in (
       place,
       refl,
       record {
         bytes = stands.1.0;
         there = there_from first pages position.page stands.0 ∙ stands.1.1;
-        short = short position.page stands.1.0 stands.1.1;
         before = at.front;
         payload = at.payload;
+        fit = all_front (λ (p : List ℕ). length p < 2 ^ 64) (at.front ++ at.payload ∷ []) at.behind fit;
         at = stands.1.2;
         spelled = at.spelled;
       },
     )
+
+-- ---- one frame more
+
+-- frames have one spelling
+abbrev entries_of : List Framed → List Entry
+entries_of [] = []
+entries_of (framed ∷ frames) = (framed.0, frame_bytes framed.1) ∷ entries_of frames
+
+entries_are : (entries : List Entry) (frames : List Framed) → SpellFrames entries frames → entries ≡ entries_of frames
+entries_are [] frames spells = ap entries_of (sym spells)
+entries_are (entry ∷ entries) frames spells =
+    let more : entries ≡ entries_of spells.1 = entries_are entries spells.1 spells.3 in
+    let here : entry ∷ entries ≡ (entry.0, frame_bytes spells.0) ∷ entries_of spells.1 = λ i. (entry.0, spells.2.spelled i) ∷ more i in
+    here ∙ ap entries_of (sym spells.4)
+
+entries_both : (xs ys : List Framed) → entries_of (xs ++ ys) ≡ entries_of xs ++ entries_of ys
+entries_both [] ys = refl
+entries_both (x ∷ xs) ys = ap (λ (l : List Entry). (x.0, frame_bytes x.1) ∷ l) (entries_both xs ys)
+
+-- a frame more in the list is appended
+pub appended : (first : ℕ) (frames : List Framed) (position : Position) (frame : Frame) (old new : Pages) → HasFrames first frames old → HasFrames first (frames ++ (position, frame) ∷ []) new → IsAppended first position (frame_bytes frame) old new
+appended first frames position frame old new had has =
+    let before : had.entries ≡ entries_of frames = entries_are had.entries frames had.spelled in
+    let after : has.entries ≡ entries_of frames ++ (position, frame_bytes frame) ∷ [] = entries_are has.entries (frames ++ (position, frame) ∷ []) has.spelled ∙ entries_both frames ((position, frame) ∷ []) in
+    record {
+      entries = entries_of frames;
+      was = subst (λ (es : List Entry). HasEntries first es old) before had.has;
+      is = subst (λ (es : List Entry). HasEntries first es new) after has.has;
+      fit = subst AllEntriesFit after (entries_fit has.entries (frames ++ (position, frame) ∷ []) has.spelled);
+    }

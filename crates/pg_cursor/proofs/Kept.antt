@@ -5,11 +5,12 @@ use Rattle.std.proofs.lemmas.Grind.{common_steps}
 use Rattle.std.proofs.lemmas.List.{append-nil}
 use Rattle.pg_acks.specs.declared.position.Position.{Position}
 use Rattle.pg_acks.specs.Acked.{AckSets}
-use Rattle.pg_gate.specs.Gated.{opened, Batches}
+use Rattle.pg_gate.specs.Gated.{opened, AllFit, Batches}
 use Rattle.pg_page.specs.declared.frame.Frame.{Frame}
 use Rattle.pg_page.specs.declared.place.Place.{Place}
-use Rattle.pg_page.specs.Pages.{Entry, HasEntries, Pages}
+use Rattle.pg_page.specs.Pages.{AllEntriesFit, Entry, HasEntries, Pages}
 use Rattle.pg_page.specs.Places.{IsAt}
+use Rattle.pg_page.proofs.PageLaws.{all_front}
 use Rattle.pg_pagetx.specs.Standings.{Transactions}
 use Rattle.pg_cursor.specs.declared.tail.Tail.{Tail}
 use Rattle.pg_cursor.specs.declared.tail.Tail.TheVariants.{Begin, Behind}
@@ -43,17 +44,17 @@ module _ (cursor : Cursor) (acks : AckSets) (txs : Transactions) (old new : Page
 
 module _ (old new : Pages) (same : (page : ℕ) → new page ≡ old page) where
   same_frame : (place : Place) (frame : Frame) → HasFrame old place frame → HasFrame new place frame
-  same_frame place frame has = record { bytes = has.bytes; there = same place.position.page ∙ has.there; short = has.short; before = has.before; payload = has.payload; at = has.at; spelled = has.spelled }
+  same_frame place frame has = record { bytes = has.bytes; there = same place.position.page ∙ has.there; before = has.before; payload = has.payload; fit = has.fit; at = has.at; spelled = has.spelled }
 
   same_back : (place : Place) (frame : Frame) → HasFrame new place frame → HasFrame old place frame
-  same_back place frame has = record { bytes = has.bytes; there = sym (same place.position.page) ∙ has.there; short = has.short; before = has.before; payload = has.payload; at = has.at; spelled = has.spelled }
+  same_back place frame has = record { bytes = has.bytes; there = sym (same place.position.page) ∙ has.there; before = has.before; payload = has.payload; fit = has.fit; at = has.at; spelled = has.spelled }
 
   pub same_tracks : (cursor : Cursor) (acks : AckSets) (txs : Transactions) → Tracks cursor acks txs old → Tracks cursor acks txs new
   same_tracks cursor acks txs = tracks_kept cursor acks txs old new same_frame (λ place frame passed has. same_back place frame has)
 
   pub same_stands : (tail : Tail) → TailStands tail old → TailStands tail new
   same_stands (Begin page) stands = tt
-  same_stands (Behind place) stands = record { bytes = stands.bytes; there = same place.position.page ∙ stands.there; short = stands.short; is = stands.is }
+  same_stands (Behind place) stands = record { bytes = stands.bytes; there = same place.position.page ∙ stands.there; is = stands.is; fit = stands.fit }
 
 -- ---- one more payload
 
@@ -97,28 +98,31 @@ module _ (first : ℕ) (position : Position) (added : List ℕ) (old new : Pages
   abbrev More : List Entry
   More = appended.entries ++ (position, added) ∷ []
 
+  old_fit : AllEntriesFit Entries
+  old_fit = all_front (λ (e : Entry). length e.1 < 2 ^ 64) Entries ((position, added) ∷ []) appended.fit
+
   -- what stood stands
-  module _ (place : Place) (bytes : List ℕ) (before : List (List ℕ)) (payload : List ℕ) (there : pages_from first old place.position.page ≡ Some bytes) (short : length bytes < 2 ^ 64) (at : IsAt bytes place before payload) where
-    stands_still : (bytes_now : List ℕ) × (pages_from first new place.position.page ≡ Some bytes_now) × (length bytes_now < 2 ^ 64) × IsAt bytes_now place before payload
+  module _ (place : Place) (bytes : List ℕ) (before : List (List ℕ)) (payload : List ℕ) (there : pages_from first old place.position.page ≡ Some bytes) (fit : AllFit (before ++ payload ∷ [])) (at : IsAt bytes place before payload) where
+    stands_still : (bytes_now : List ℕ) × (pages_from first new place.position.page ≡ Some bytes_now) × IsAt bytes_now place before payload
     stands_still =
         let on = there_on first old place.position.page bytes there in
-        let listed = stands_listed first Entries old appended.was place bytes before payload on.1 on.0 short at in
+        let listed = stands_listed first Entries old appended.was old_fit place bytes before payload on.1 on.0 fit at in
         let extra : List (List ℕ) = on_page place.position.page ((position, added) ∷ []) in
         let is : on_page place.position.page More ≡ (before ++ payload ∷ []) ++ (listed.0 ++ extra) =
         on_page_both place.position.page Entries ((position, added) ∷ []) ∙ ap (λ (l : List (List ℕ)). l ++ extra) listed.1 ∙ append_assoc (before ++ payload ∷ []) listed.0 extra in
         let now = stands_in first More new appended.is place before (listed.0 ++ extra) payload is at.stands.at at.index in
-        (now.1.0, there_from first new place.position.page now.0 ∙ now.1.1, appended.short_after place.position.page now.1.0 now.1.1, now.1.2)
+        (now.1.0, there_from first new place.position.page now.0 ∙ now.1.1, now.1.2)
 
   frame_forth : (place : Place) (frame : Frame) → HasFrame (pages_from first old) place frame → HasFrame (pages_from first new) place frame
   frame_forth place frame has =
-      let now = stands_still place has.bytes has.before has.payload has.there has.short has.at in
-      record { bytes = now.0; there = now.1; short = now.2; before = has.before; payload = has.payload; at = now.3; spelled = has.spelled }
+      let now = stands_still place has.bytes has.before has.payload has.there has.fit has.at in
+      record { bytes = now.0; there = now.1; before = has.before; payload = has.payload; fit = has.fit; at = now.2; spelled = has.spelled }
 
   pub tail_stands : (tail : Tail) → TailStands tail (pages_from first old) → TailStands tail (pages_from first new)
   tail_stands (Begin page) stands = tt
   tail_stands (Behind place) stands =
-      let now = stands_still place stands.bytes stands.is.0 stands.is.1 stands.there stands.short stands.is.2 in
-      record { bytes = now.0; there = now.1; short = now.2; is = (stands.is.0, stands.is.1, now.3) }
+      let now = stands_still place stands.bytes stands.is.0 stands.is.1 stands.there stands.fit stands.is.2 in
+      record { bytes = now.0; there = now.1; is = (stands.is.0, stands.is.1, now.2); fit = stands.fit }
 
   -- the position of the new one
   index_is : position.index ≡ length (on_page position.page Entries)
@@ -160,11 +164,11 @@ module _ (first : ℕ) (position : Position) (added : List ℕ) (old new : Pages
   frame_back : (tail : Tail) → (IsPassed tail position → ⊥) → (place : Place) (frame : Frame) → IsPassed tail place.position → HasFrame (pages_from first new) place frame → HasFrame (pages_from first old) place frame
   frame_back tail behind place frame passed has =
       let on = there_on first new place.position.page has.bytes has.there in
-      let listed = stands_listed first More new appended.is place has.bytes has.before has.payload on.1 on.0 has.short has.at in
+      let listed = stands_listed first More new appended.is appended.fit place has.bytes has.before has.payload on.1 on.0 has.fit has.at in
       elim (stood place has.before listed.0 has.payload listed.1 has.at.index) [
         | inl was ↦
             let now = stands_in first Entries old appended.was place has.before was.0 has.payload was.1 has.at.stands.at has.at.index in
-            record { bytes = now.1.0; there = there_from first old place.position.page now.0 ∙ now.1.1; short = appended.short_before place.position.page now.1.0 now.1.1; before = has.before; payload = has.payload; at = now.1.2; spelled = has.spelled }
+            record { bytes = now.1.0; there = there_from first old place.position.page now.0 ∙ now.1.1; before = has.before; payload = has.payload; fit = has.fit; at = now.1.2; spelled = has.spelled }
         | inr is ↦ absurd (behind (subst (IsPassed tail) is passed))
       ]
 
@@ -178,7 +182,7 @@ module _ (first : ℕ) (position : Position) (added : List ℕ) (old new : Pages
   not_yet_there (Behind place) upto stands (inl beyond) = omega (arith, upto, beyond)
   not_yet_there (Behind place) upto stands (inr here) =
       let on = there_on first old place.position.page stands.bytes stands.there in
-      let listed = stands_listed first Entries old appended.was place stands.bytes stands.is.0 stands.is.1 on.1 on.0 stands.short stands.is.2 in
+      let listed = stands_listed first Entries old appended.was old_fit place stands.bytes stands.is.0 stands.is.1 on.1 on.0 stands.fit stands.is.2 in
       omega (
         arith,
         here.1,

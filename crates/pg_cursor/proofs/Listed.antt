@@ -1,16 +1,18 @@
 -- What stands at places, and the list of what pages have.
-use Rattle.std.proofs.Common.{◌≡◌, ◌≢◌, ◌≤◌, ◌<◌, ◌+◌, ◌^◌, ◌==◌, ℕ, true, false, List, [], ◌∷◌, ◌++◌, length, Option, Some, None, refl, sym, ◌∙◌, ap, subst, inl, inr, arith, append_assoc, length-append}
+use Rattle.std.proofs.Common.{◌≡◌, ◌≢◌, ◌⊎◌, ◌≤◌, ◌<◌, ◌+◌, ◌^◌, ◌==◌, ℕ, true, false, List, [], ◌∷◌, ◌++◌, length, Option, Some, None, refl, sym, ◌∙◌, ap, subst, inl, inr, arith, append_assoc, length-append}
 use Rattle.std.specs.Prelude.{if◌then◌else◌}
 use Rattle.std.specs.Int.{to_be_bytes, w64}
 use Rattle.std.proofs.lemmas.Bool.{cases_Bool, cases_eq}
 use Rattle.std.proofs.lemmas.Grind.{common_steps}
 use Rattle.std.proofs.lemmas.List.{append-nil}
+use Rattle.std.proofs.lemmas.List.Elements.{All-cons, All-head, All-tail}
 use Rattle.pg_disk.specs.Calls.{Holds}
 use Rattle.pg_disk.proofs.Bytes.{holds_itself}
-use Rattle.pg_gate.specs.Gated.{opened, Batches, HasBatches}
+use Rattle.pg_gate.specs.Gated.{opened, AllFit, Batches, HasBatches}
 use Rattle.pg_gate.proofs.Sealing.{opened-push}
+use Rattle.pg_gate.proofs.Unique.{none_fit}
 use Rattle.pg_page.specs.declared.place.Place.{Place}
-use Rattle.pg_page.specs.Pages.{Entry, HasEntries, HasPages, Pages, position_at, positioned, positioned_in}
+use Rattle.pg_page.specs.Pages.{AllEntriesFit, Entry, HasEntries, HasPages, Pages, position_at, positioned, positioned_in}
 use Rattle.pg_page.specs.Places.{IsAt}
 use Rattle.pg_page.proofs.PageLaws.{passed_are}
 
@@ -25,6 +27,23 @@ on_page_both page (x ∷ xs) ys = elim (cases_Bool (x.0.page == page)) [
   | inl same ↦ grind (arith, common_steps, same, on_page_both page xs ys)
   | inr apart ↦ grind (arith, common_steps, apart, on_page_both page xs ys)
 ]
+
+-- where each length has its spelling, those of a page have
+pub page_fit : (page : ℕ) (entries : List Entry) → AllEntriesFit entries → AllFit (on_page page entries)
+page_fit page [] fit = none_fit
+page_fit page (entry ∷ entries) fit =
+    with_one (cases_Bool (entry.0.page == page)) (All-head (λ (e : Entry). length e.1 < 2 ^ 64) entry entries fit)
+    (page_fit page entries (All-tail (λ (e : Entry). length e.1 < 2 ^ 64) entry entries fit))
+  where
+    here : (entry.0.page == page) ≡ true → on_page page (entry ∷ entries) ≡ entry.1 ∷ on_page page entries
+    here same = grind (arith, common_steps, same)
+
+    elsewhere : (entry.0.page == page) ≡ false → on_page page (entry ∷ entries) ≡ on_page page entries
+    elsewhere apart = grind (arith, common_steps, apart)
+
+    with_one : ((entry.0.page == page) ≡ true) ⊎ ((entry.0.page == page) ≡ false) → length entry.1 < 2 ^ 64 → AllFit (on_page page entries) → AllFit (on_page page (entry ∷ entries))
+    with_one (inl same) one others = subst AllFit (sym (here same)) (All-cons (λ (p : List ℕ). length p < 2 ^ 64) entry.1 (on_page page entries) one others)
+    with_one (inr apart) one others = subst AllFit (sym (elsewhere apart)) others
 
 same_number : (a : ℕ) → (a == a) ≡ true
 same_number a = grind (arith, common_steps)
@@ -97,10 +116,10 @@ module _ (first : ℕ) (entries : List Entry) (pages : Pages) (has : HasEntries 
   page_there page some = there_on_page first page has.payloads pages has.has (subst (λ (es : List Entry). 0 < length (on_page page es)) has.are some)
 
   -- what stands at a place is one of them
-  pub stands_listed : (place : Place) (bytes : List ℕ) (before : List (List ℕ)) (payload : List ℕ) → first ≤ place.position.page → pages place.position.page ≡ Some bytes → length bytes < 2 ^ 64 → IsAt bytes place before payload
+  pub stands_listed : AllEntriesFit entries → (place : Place) (bytes : List ℕ) (before : List (List ℕ)) (payload : List ℕ) → first ≤ place.position.page → pages place.position.page ≡ Some bytes → AllFit (before ++ payload ∷ []) → IsAt bytes place before payload
       → (behind : List (List ℕ)) × (on_page place.position.page entries ≡ (before ++ payload ∷ []) ++ behind)
-  stands_listed place bytes before payload from there short at =
-      passed_are bytes (on_page place.position.page entries) (before ++ payload ∷ []) short (batches_are place.position.page bytes from there) at.stands.passes
+  stands_listed fits place bytes before payload from there fit at =
+      passed_are bytes (on_page place.position.page entries) (before ++ payload ∷ []) fit (page_fit place.position.page entries fits) (batches_are place.position.page bytes from there) at.stands.passes
 
 -- batches stand one behind the other
 opened_both : (xs ys : List (List ℕ)) (rest : List ℕ) → opened (xs ++ ys) ++ rest ≡ opened xs ++ (opened ys ++ rest)

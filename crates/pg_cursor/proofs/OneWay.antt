@@ -35,7 +35,7 @@ later_or tail place = elim (passed_or_not tail place.position) [
 
 module _ (pages : Pages) where
   stands : (place : Place) (payload : List ℕ) → HasPayload pages place payload → StandsOn pages place
-  stands place payload has = record { bytes = has.bytes; there = has.there; short = has.short; is = (has.before, payload, has.at) }
+  stands place payload has = record { bytes = has.bytes; there = has.there; is = (has.before, payload, has.at); fit = has.fit }
 
   passed_itself : (place : Place) → IsPassed (Behind place) place.position
   passed_itself place = inr (refl, omega arith)

@@ -1,23 +1,22 @@
 -- The next place on a page, and what stands there.
-use Rattle.std.proofs.Common.{◌≡◌, ◌<◌, ◌≤◌, ◌^◌, ℕ, true, false, List, [], ◌∷◌, ◌++◌, length, Option, Some, None, Result, Ok, Err, IfOk, Bool, IsTrue, ◌↔◌, refl, sym, ◌∙◌, ap, subst, inl, arith, length-append}
+use Rattle.std.proofs.Common.{◌≡◌, ◌<◌, ◌^◌, ℕ, true, false, List, [], ◌∷◌, ◌++◌, length, Option, Some, None, Result, Ok, Err, IfOk, Bool, IsTrue, OnOk, ◌↔◌, sym, ◌∙◌, ap, subst, arith, length-append}
 use Rattle.std.specs.FinMap.{FinMap, get}
 use Rattle.std.proofs.lemmas.Option.{slice_get_within}
 use Rattle.pg_acks.specs.Acked.{AckSets, is_acknowledged}
 use Rattle.pg_disk.specs.Account.{Account, FileState, IsHonest, account}
-use Rattle.pg_disk.specs.Calls.{Changes, Reads}
 use Rattle.pg_disk.specs.Image.{IsFileThere}
 use Rattle.pg_disk.specs.Files.{file_cmp}
 use Rattle.pg_disk.specs.Views.{as_read, bytes_of}
-use Rattle.pg_gate.specs.Gated.{Batches}
+use Rattle.pg_gate.specs.Gated.{AllFit, Batches}
 use Rattle.pg_gate.specs.Spans.{AsRead}
-use Rattle.pg_gate.proofs.Reading.{as_read_before}
+use Rattle.pg_gate.proofs.Unique.{none_fit}
 use Rattle.pg_page.specs.declared.frame.Frame.{Frame}
 use Rattle.pg_page.specs.declared.place.Place.{Place}
 use Rattle.pg_page.specs.Frames.{SpellsFrame}
 use Rattle.pg_page.specs.Pages.{Pages, page_file, pages_of}
 use Rattle.pg_page.specs.Places.{IsAt, IsNextPlace}
 use Rattle.pg_page.proofs.FrameLaws.{same_frame}
-use Rattle.pg_page.proofs.PageLaws.{batch_at}
+use Rattle.pg_page.proofs.PageLaws.{batch_at, passed_fit}
 use Rattle.pg_pagetx.specs.Standings.{Transactions}
 use Rattle.pg_cursor.specs.declared.tail.Tail.{Tail}
 use Rattle.pg_cursor.specs.declared.tail.Tail.TheVariants.{Begin, Behind}
@@ -32,35 +31,38 @@ some_bytes a b e = cc
 pub page_reads : (files : FinMap file_cmp FileState) (address page : ℕ) (s : FileState) → get files (page_file address page) ≡ Some s → pages_of (as_read files) address page ≡ Some s.bytes
 page_reads files address page s there = ap bytes_of there
 
+-- in a page of fewer than 2^64 bytes the lengths up to a place have their spelling
+place_fit : (bytes : List ℕ) (place : Place) (before : List (List ℕ)) (payload : List ℕ) → length bytes < 2 ^ 64 → IsAt bytes place before payload → AllFit (before ++ payload ∷ [])
+place_fit bytes place before payload short at = passed_fit bytes (before ++ payload ∷ []) short at.stands.passes
+
 -- no place stands behind all batches of a page
-none_behind : (pages : Pages) (bytes : List ℕ) (batches : List (List ℕ)) (place : Place) → pages place.position.page ≡ Some bytes → Batches bytes batches → StandsOn pages place → place.position.index < length batches
-none_behind pages bytes batches place there are stands =
+none_behind : (pages : Pages) (bytes : List ℕ) (batches : List (List ℕ)) (place : Place) → pages place.position.page ≡ Some bytes → AllFit batches → Batches bytes batches → StandsOn pages place → place.position.index < length batches
+none_behind pages bytes batches place there fits are stands =
     let one : stands.bytes ≡ bytes = some_bytes stands.bytes bytes (sym stands.there ∙ there) in
-    let short : length bytes < 2 ^ 64 = subst (λ (l : List ℕ). length l < 2 ^ 64) one stands.short in
     let at : IsAt bytes place stands.is.0 stands.is.1 = subst (λ (l : List ℕ). IsAt l place stands.is.0 stands.is.1) one stands.is.2 in
-    slice_get_within batches place.position.index stands.is.1 (batch_at bytes place stands.is.0 stands.is.1 batches short at are)
+    slice_get_within batches place.position.index stands.is.1 (batch_at bytes place stands.is.0 stands.is.1 batches stands.fit fits at are)
 
 pub first_onward : (pages : Pages) (page : ℕ) (bytes : List ℕ) (next : Option Place) → pages page ≡ Some bytes → length bytes < 2 ^ 64 → IsNextPlace bytes page [] next → IsNext (Begin page) next pages
-first_onward pages page bytes None there short is = λ place stands on. none_behind pages bytes [] place (ap pages on ∙ there) is stands
+first_onward pages page bytes None there short is = λ place stands on. none_behind pages bytes [] place (ap pages on ∙ there) none_fit is stands
 first_onward pages page bytes (Some place) there short is = (
-  record { bytes = bytes; there = ap pages is.0 ∙ there; short = short; is = ([], is.1.0, is.1.1) },
+  record { bytes = bytes; there = ap pages is.0 ∙ there; is = ([], is.1.0, is.1.1); fit = place_fit bytes place [] is.1.0 short is.1.1 },
   is.0,
   is.1.1.index,
 )
 
-pub later_onward : (pages : Pages) (after : Place) (bytes : List ℕ) (next : Option Place) → pages after.position.page ≡ Some bytes
+pub later_onward : (pages : Pages) (after : Place) (bytes : List ℕ) (next : Option Place) → pages after.position.page ≡ Some bytes → length bytes < 2 ^ 64
     → ((before : List (List ℕ)) (payload : List ℕ) → IsAt bytes after before payload → IsNextPlace bytes after.position.page (before ++ payload ∷ []) next) → StandsOn pages after → IsNext (Behind after) next pages
-later_onward pages after bytes next there tells stands =
+later_onward pages after bytes next there short tells stands =
     let one : stands.bytes ≡ bytes = some_bytes stands.bytes bytes (sym stands.there ∙ there) in
     let at : IsAt bytes after stands.is.0 stands.is.1 = subst (λ (l : List ℕ). IsAt l after stands.is.0 stands.is.1) one stands.is.2 in
-    go next (subst (λ (l : List ℕ). length l < 2 ^ 64) one stands.short) stands.is.0 stands.is.1 at (tells stands.is.0 stands.is.1 at)
+    go next stands.is.0 stands.is.1 stands.fit at (tells stands.is.0 stands.is.1 at)
   where
-    go : (next : Option Place) → length bytes < 2 ^ 64 → (before : List (List ℕ)) (payload : List ℕ) → IsAt bytes after before payload → IsNextPlace bytes after.position.page (before ++ payload ∷ []) next → IsNext (Behind after) next pages
-    go None short before payload at is = λ place stands on.
-        let within = none_behind pages bytes (before ++ payload ∷ []) place (ap pages on ∙ there) is stands in
+    go : (next : Option Place) (before : List (List ℕ)) (payload : List ℕ) → AllFit (before ++ payload ∷ []) → IsAt bytes after before payload → IsNextPlace bytes after.position.page (before ++ payload ∷ []) next → IsNext (Behind after) next pages
+    go None before payload fit at is = λ place stands on.
+        let within = none_behind pages bytes (before ++ payload ∷ []) place (ap pages on ∙ there) fit is stands in
         omega (arith, within, at.index, length-append before (payload ∷ []))
-    go (Some place) short before payload at is = (
-      record { bytes = bytes; there = ap pages is.0 ∙ there; short = short; is = (before ++ payload ∷ [], is.1.0, is.1.1) },
+    go (Some place) before payload fit at is = (
+      record { bytes = bytes; there = ap pages is.0 ∙ there; is = (before ++ payload ∷ [], is.1.0, is.1.1); fit = place_fit bytes place (before ++ payload ∷ []) is.1.0 short is.1.1 },
       is.0,
       omega (arith, is.1.1.index, at.index, length-append before (payload ∷ [])),
     )
@@ -71,7 +73,7 @@ module _ (pages : Pages) (place : Place) (bytes : List ℕ) (frame : Frame) (the
   frame_there stands =
       let one : stands.bytes ≡ bytes = some_bytes stands.bytes bytes (sym stands.there ∙ there) in
       let at : IsAt bytes place stands.is.0 stands.is.1 = subst (λ (l : List ℕ). IsAt l place stands.is.0 stands.is.1) one stands.is.2 in
-      record { bytes = bytes; there = there; short = subst (λ (l : List ℕ). length l < 2 ^ 64) one stands.short; before = stands.is.0; payload = stands.is.1; at = at; spelled = reads stands.is.0 stands.is.1 at }
+      record { bytes = bytes; there = there; before = stands.is.0; payload = stands.is.1; fit = stands.fit; at = at; spelled = reads stands.is.0 stands.is.1 at }
 
   pub frame_only : (other : Frame) → HasFrame pages place other → other ≡ frame
   frame_only other has =
@@ -81,30 +83,22 @@ module _ (pages : Pages) (place : Place) (bytes : List ℕ) (frame : Frame) (the
 -- the same of the calls that read
 module _ (old : Option Account) (address : ℕ) where
   module _ (page : ℕ) (there : IsHonest old → IsFileThere (page_file address page) (account old).files) where
-    pub none_short : (end : ℕ) → AsRead (page_file address page) old (λ bytes. end ≡ length bytes) → end ≤ 1 → IsHonest old → IsNext (Begin page) None (pages_of (as_read (account old).files) address)
-    none_short end size few h =
+    pub first_answer : {E : Type 0} (result : Result (Option Place) E) → IfOk result (λ next. AsRead (page_file address page) old (λ bytes. IsNextPlace bytes page [] next)) → OnOk result (AsRead (page_file address page) old (λ bytes. length bytes < 2 ^ 64))
+        → IfOk result (λ next. IsHonest old → IsNext (Begin page) next (pages_of (as_read (account old).files) address))
+    first_answer (Ok next) tells short = λ h.
         let is = there h in
-        let long = size h is.0 is.1 in
-        first_onward (pages_of (as_read (account old).files) address) page is.0.bytes None (page_reads (account old).files address page is.0 is.1) (omega (arith, long, few)) (inl (omega (arith, long, few), refl))
-
-    pub first_answer : {E : Type 0} (mid : Option Account) (n end : ℕ) (result : Result (Option Place) E) → Changes old mid (Reads n) → AsRead (page_file address page) old (λ bytes. end ≡ length bytes) → end < 2 ^ 64
-        → IfOk result (λ next. AsRead (page_file address page) mid (λ bytes. IsNextPlace bytes page [] next)) → IfOk result (λ next. IsHonest old → IsNext (Begin page) next (pages_of (as_read (account old).files) address))
-    first_answer mid n end (Ok next) change size small tells = λ h.
-        let is = there h in
-        let long = size h is.0 is.1 in
-        first_onward (pages_of (as_read (account old).files) address) page is.0.bytes next (page_reads (account old).files address page is.0 is.1) (omega (arith, long, small))
-        (as_read_before (page_file address page) old mid n (λ bytes. IsNextPlace bytes page [] next) change tells h is.0 is.1)
-    first_answer mid n end (Err e) change size small tells = tt
+        first_onward (pages_of (as_read (account old).files) address) page is.0.bytes next (page_reads (account old).files address page is.0 is.1) (short h is.0 is.1) (tells h is.0 is.1)
+    first_answer (Err e) tells short = tt
 
   pub later_answer : {E : Type 0} (tail : Tail) (after : Place) (result : Result (Option Place) E) → tail ≡ Behind after → (IsHonest old → IsFileThere (page_file address (page_of tail)) (account old).files) → (IsHonest old → TailStands tail (pages_of (as_read (account old).files) address))
       → IfOk result (λ next. AsRead (page_file address after.position.page) old (λ bytes. (before : List (List ℕ)) (payload : List ℕ) → IsAt bytes after before payload → IsNextPlace bytes after.position.page (before ++ payload ∷ []) next))
-      → IfOk result (λ next. IsHonest old → IsNext tail next (pages_of (as_read (account old).files) address))
-  later_answer tail after (Ok next) same there stands tells = λ h.
+      → OnOk result (AsRead (page_file address after.position.page) old (λ bytes. length bytes < 2 ^ 64)) → IfOk result (λ next. IsHonest old → IsNext tail next (pages_of (as_read (account old).files) address))
+  later_answer tail after (Ok next) same there stands tells short = λ h.
       let is : IsFileThere (page_file address after.position.page) (account old).files = subst (λ (t : Tail). IsFileThere (page_file address (page_of t)) (account old).files) same (there h) in
       subst (λ (t : Tail). IsNext t next (pages_of (as_read (account old).files) address)) (sym same)
-      (later_onward (pages_of (as_read (account old).files) address) after is.0.bytes next (page_reads (account old).files address after.position.page is.0 is.1) (tells h is.0 is.1)
+      (later_onward (pages_of (as_read (account old).files) address) after is.0.bytes next (page_reads (account old).files address after.position.page is.0 is.1) (short h is.0 is.1) (tells h is.0 is.1)
       (subst (λ (t : Tail). TailStands t (pages_of (as_read (account old).files) address)) same (stands h)))
-  later_answer tail after (Err e) same there stands tells = tt
+  later_answer tail after (Err e) same there stands tells short = tt
 
   -- whether the frame that was read is an entry
   pub live_answer : (queue : ℕ) (acks : AckSets) (txs : Transactions) (place : Place) (frame : Frame) (result : Bool) → (IsHonest old → IsFileThere (page_file address place.position.page) (account old).files)

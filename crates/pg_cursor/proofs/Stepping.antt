@@ -6,10 +6,11 @@ use Rattle.pg_acks.specs.Acked.{AckSets}
 use Rattle.pg_disk.specs.Calls.{Holds}
 use Rattle.pg_disk.proofs.Bytes.{holds_all}
 use Rattle.pg_gate.specs.Gated.{opened, AllFit}
-use Rattle.pg_gate.proofs.Unique.{back_of, fits_first, fits_rest, front_of, opened_fit, same_length, tail_of}
+use Rattle.pg_gate.proofs.Unique.{back_of, fits_first, fits_rest, front_of, same_length, tail_of}
 use Rattle.pg_page.specs.declared.place.Place.{Place}
 use Rattle.pg_page.specs.Pages.{Pages}
 use Rattle.pg_page.specs.Places.{IsAt}
+use Rattle.pg_page.proofs.PageLaws.{all_front}
 use Rattle.pg_page.proofs.PlaceLaws.{opened_more}
 use Rattle.pg_pagetx.specs.Standings.{Transactions}
 use Rattle.pg_cursor.specs.declared.tail.Tail.{Tail}
@@ -46,8 +47,8 @@ begins bytes place before payload at =
     let behind : List ℕ = drop (length (opened (before ++ payload ∷ []))) bytes in
     (own ++ behind, holds_all bytes (opened (before ++ payload ∷ [])) at.stands.passes.stand ∙ ap (λ (l : List ℕ). l ++ behind) (sym (opened_more before payload)) ∙ append_assoc (opened before) own behind)
 
-fits_before : (bytes : List ℕ) (before : List (List ℕ)) (rest : List ℕ) → length bytes < 2 ^ 64 → bytes ≡ opened before ++ rest → AllFit before
-fits_before bytes before rest short e = opened_fit before (length bytes) (omega (arith, ap length e, length-append (opened before) rest)) short
+fits_before : (before : List (List ℕ)) (payload : List ℕ) → AllFit (before ++ payload ∷ []) → AllFit before
+fits_before before payload fit = all_front (λ (p : List ℕ). length p < 2 ^ 64) before (payload ∷ []) fit
 
 some_bytes : (a b : List ℕ) → Some a ≡ Some b → a ≡ b
 some_bytes a b e = cc
@@ -58,7 +59,7 @@ one_offset pages a b on_a on_b page index =
     let at : IsAt on_a.bytes b on_b.is.0 on_b.is.1 = subst (λ (l : List ℕ). IsAt l b on_b.is.0 on_b.is.1) one on_b.is.2 in
     let left = begins on_a.bytes a on_a.is.0 on_a.is.1 on_a.is.2 in
     let right = begins on_a.bytes b on_b.is.0 on_b.is.1 at in
-    let same : on_a.is.0 ≡ on_b.is.0 = same_front on_a.is.0 on_b.is.0 left.0 right.0 (fits_before on_a.bytes on_a.is.0 left.0 on_a.short left.1) (fits_before on_a.bytes on_b.is.0 right.0 on_a.short right.1) (omega (arith, on_a.is.2.index, at.index, index)) (sym left.1 ∙ right.1) in
+    let same : on_a.is.0 ≡ on_b.is.0 = same_front on_a.is.0 on_b.is.0 left.0 right.0 (fits_before on_a.is.0 on_a.is.1 on_a.fit) (fits_before on_b.is.0 on_b.is.1 on_b.fit) (omega (arith, on_a.is.2.index, at.index, index)) (sym left.1 ∙ right.1) in
     let offset : a.offset ≡ b.offset = omega (arith, on_a.is.2.stands.at, at.stands.at, ap (λ (l : List (List ℕ)). length (opened l)) same) in
     λ i. record { position = record { page = page i; index = index i }; offset = offset i }
 
@@ -69,8 +70,9 @@ one_payload pages place p q has_p has_q =
     let at : IsAt has_p.bytes place has_q.before q = subst (λ (l : List ℕ). IsAt l place has_q.before q) one has_q.at in
     let left = begins has_p.bytes place has_p.before p has_p.at in
     let right = begins has_p.bytes place has_q.before q at in
-    let before : has_p.before ≡ has_q.before = same_front has_p.before has_q.before left.0 right.0 (fits_before has_p.bytes has_p.before left.0 has_p.short left.1) (fits_before has_p.bytes has_q.before right.0 has_p.short right.1) (omega (arith, has_p.at.index, at.index)) (sym left.1 ∙ right.1) in
-    one_last has_p.bytes has_p.before p q has_p.short has_p.at.stands.passes.stand (subst (λ (l : List (List ℕ)). Holds has_p.bytes 0 (opened (l ++ q ∷ []))) (sym before) at.stands.passes.stand)
+    let before : has_p.before ≡ has_q.before = same_front has_p.before has_q.before left.0 right.0 (fits_before has_p.before p has_p.fit) (fits_before has_q.before q has_q.fit) (omega (arith, has_p.at.index, at.index)) (sym left.1 ∙ right.1) in
+    one_last has_p.bytes has_p.before p q has_p.fit (subst (λ (l : List (List ℕ)). AllFit (l ++ q ∷ [])) (sym before) has_q.fit) has_p.at.stands.passes.stand
+    (subst (λ (l : List (List ℕ)). Holds has_p.bytes 0 (opened (l ++ q ∷ []))) (sym before) at.stands.passes.stand)
   where
     last_of : (before : List (List ℕ)) (p q : List ℕ) → before ++ p ∷ [] ≡ before ++ q ∷ [] → p ≡ q
     last_of [] p q e = cc
@@ -79,11 +81,11 @@ one_payload pages place p q has_p has_q =
         rest_of : x ∷ (before ++ p ∷ []) ≡ x ∷ (before ++ q ∷ []) → before ++ p ∷ [] ≡ before ++ q ∷ []
         rest_of same = cc
 
-    one_last : (bytes : List ℕ) (before : List (List ℕ)) (p q : List ℕ) → length bytes < 2 ^ 64 → Holds bytes 0 (opened (before ++ p ∷ [])) → Holds bytes 0 (opened (before ++ q ∷ [])) → p ≡ q
-    one_last bytes before p q short left right =
+    one_last : (bytes : List ℕ) (before : List (List ℕ)) (p q : List ℕ) → AllFit (before ++ p ∷ []) → AllFit (before ++ q ∷ []) → Holds bytes 0 (opened (before ++ p ∷ [])) → Holds bytes 0 (opened (before ++ q ∷ [])) → p ≡ q
+    one_last bytes before p q fit fits left right =
         let these : bytes ≡ opened (before ++ p ∷ []) ++ drop (length (opened (before ++ p ∷ []))) bytes = holds_all bytes (opened (before ++ p ∷ [])) left in
         let those : bytes ≡ opened (before ++ q ∷ []) ++ drop (length (opened (before ++ q ∷ []))) bytes = holds_all bytes (opened (before ++ q ∷ [])) right in
-        last_of before p q (same_front (before ++ p ∷ []) (before ++ q ∷ []) _ _ (fits_before bytes (before ++ p ∷ []) _ short these) (fits_before bytes (before ++ q ∷ []) _ short those) (omega (arith, length-append before (p ∷ []), length-append before (q ∷ []))) (sym these ∙ those))
+        last_of before p q (same_front (before ++ p ∷ []) (before ++ q ∷ []) _ _ fit fits (omega (arith, length-append before (p ∷ []), length-append before (q ∷ []))) (sym these ∙ those))
 
 -- ---- the step
 
@@ -123,7 +125,7 @@ module _ (pages : Pages) (tail : Tail) where
 
 module _ (queue : ℕ) (acks : AckSets) (txs : Transactions) (pages : Pages) (tail : Tail) where
   stands_live : (place : Place) → IsLive queue acks txs pages place → StandsOn pages place
-  stands_live place live = let has = live.entry.has in record { bytes = has.bytes; there = has.there; short = has.short; is = (has.before, has.payload, has.at) }
+  stands_live place live = let has = live.entry.has in record { bytes = has.bytes; there = has.there; is = (has.before, has.payload, has.at); fit = has.fit }
 
   pub step_finds : (place : Place) → IsNext tail (Some place) pages → IsLive queue acks txs pages place → Walks queue acks txs tail (Behind place) (Some place) pages
   step_finds place next live = record {

@@ -1,9 +1,10 @@
 -- Which places of an address's pages are entries of a queue.
-use Rattle.std.specs.Prelude.{◌≡◌, ◌<◌, ◌^◌, ◌==◌, ℕ, Bool, true, false, List, length, Option, Some, None, nat_le}
+use Rattle.std.specs.Prelude.{◌≡◌, ◌==◌, ℕ, Bool, true, false, List, [], ◌∷◌, ◌++◌, Option, Some, None, nat_le}
 use Rattle.std.specs.Prelude.{if◌then◌else◌}
 use Rattle.std.specs.List.{list_any}
 use Rattle.pg_msg.specs.declared.message.MessageId.{MessageId}
 use Rattle.pg_acks.specs.Acked.{AckSets, is_acknowledged}
+use Rattle.pg_gate.specs.Gated.{AllFit}
 use Rattle.pg_page.specs.declared.frame.Frame.{Frame}
 use Rattle.pg_page.specs.declared.place.Place.{Place}
 use Rattle.pg_page.specs.Frames.{SpellsFrame}
@@ -12,20 +13,21 @@ use Rattle.pg_page.specs.Places.{IsAt, IsPlace}
 use Rattle.pg_pagetx.specs.Standings.{Transactions, standing_of}
 use Rattle.pg_pagetx.specs.declared.standing.Standing.TheVariants.{Counts}
 
--- A batch of the place's page stands there, behind whole ones, whatever stands behind it. No file has 2^64 bytes.
+-- A batch of the place's page stands there, behind whole ones, whatever stands behind it. The lengths of all of these
+-- have a spelling of eight bytes, so that the bytes can't be read as other batches too.
 pub record StandsOn (pages : Pages) (place : Place) : Type 0 where
   pub bytes : List ℕ
   pub there : pages place.position.page ≡ Some bytes
-  pub short : length bytes < 2 ^ 64
   pub is : IsPlace place bytes
+  pub fit : AllFit (is.0 ++ is.1 ∷ [])
 
 -- the batch there is this frame
 pub record HasFrame (pages : Pages) (place : Place) (frame : Frame) : Type 0 where
   pub bytes : List ℕ
   pub there : pages place.position.page ≡ Some bytes
-  pub short : length bytes < 2 ^ 64
   pub before : List (List ℕ)
   pub payload : List ℕ
+  pub fit : AllFit (before ++ payload ∷ [])
   pub at : IsAt bytes place before payload
   pub spelled : SpellsFrame payload frame
 

@@ -1,8 +1,9 @@
 -- What a walk passes, and how many bytes it reads.
-use Rattle.std.specs.Prelude.{◌≡◌, ◌⊎◌, ◌≤◌, ◌<◌, ◌+◌, ◌-◌, ◌*◌, ◌^◌, ℕ, List, [], ◌∷◌, length, Some}
+use Rattle.std.specs.Prelude.{◌≡◌, ◌⊎◌, ◌≤◌, ◌+◌, ◌-◌, ◌*◌, ℕ, List, [], ◌∷◌, ◌++◌, length, Some}
 use Rattle.pg_disk.specs.declared.disk.Disk.{Ghosts}
 use Rattle.pg_disk.specs.Account.{account, IsHonest}
 use Rattle.pg_disk.specs.Views.{as_read}
+use Rattle.pg_gate.specs.Gated.{AllFit}
 use Rattle.pg_page.specs.declared.place.Place.{Place}
 use Rattle.pg_page.specs.Pages.{Pages, pages_of}
 use Rattle.pg_page.specs.Places.{IsAt}
@@ -13,12 +14,12 @@ use Rattle.pg_cursor.specs.declared.walking.Step.TheVariants.{Stays, Passes, Fin
 use Rattle.pg_cursor.specs.Entries.{StandsOn}
 use Rattle.pg_cursor.specs.Places.{IsNoEarlier, IsPassed, page_of}
 
--- this payload stands at the place
+-- this payload stands at the place, and its length and those of the ones before it have a spelling of eight bytes
 pub record HasPayload (pages : Pages) (place : Place) (payload : List ℕ) : Type 0 where
   pub bytes : List ℕ
   pub there : pages place.position.page ≡ Some bytes
-  pub short : length bytes < 2 ^ 64
   pub before : List (List ℕ)
+  pub fit : AllFit (before ++ payload ∷ [])
   pub at : IsAt bytes place before payload
 
 -- no place is passed by the new tail that the old one hasn't passed

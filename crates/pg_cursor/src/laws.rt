@@ -1,13 +1,14 @@
 // What a cursor knows of pages, and when it stays so. These laws have no code.
-ghost use Rattle.std.specs.Prelude.{◌≡◌, ◌≤◌, ◌++◌, ℕ, List, Contains};
+ghost use Rattle.std.specs.Prelude.{◌≡◌, ◌≤◌, ◌∷◌, ◌++◌, ℕ, List, [], Contains};
 ghost use Rattle.pg_acks.specs.declared.position.Position.{Position};
 ghost use Rattle.pg_acks.specs.Acked.{AckSets};
 ghost use Rattle.pg_page.specs.declared.frame.Frame.{Frame};
 ghost use Rattle.pg_page.specs.declared.place.Place.{Place};
+ghost use Rattle.pg_page.specs.Frames.{frame_bytes};
 ghost use Rattle.pg_page.specs.Pages.{HasFrames, Pages};
 ghost use Rattle.pg_pagetx.specs.Standings.{Transactions};
 ghost use Rattle.pg_cursor.specs.declared.tail.Tail.{Tail};
-ghost use Rattle.pg_cursor.specs.Changes.{AreShort, IsAppended};
+ghost use Rattle.pg_cursor.specs.Changes.{IsAppended};
 ghost use Rattle.pg_cursor.specs.Entries.{HasFrame, pages_from};
 ghost use Rattle.pg_cursor.specs.Places.{IsPassed, page_of};
 ghost use Rattle.pg_cursor.specs.Tracking.{Cursor, Tracks};
@@ -20,13 +21,17 @@ pub fn places_of_frames()
         (place : Place) (frame : Frame) → HasFrame (pages_from first pages) place frame →
         Contains frames (place.position, frame) }
     ensures placed { (first : ℕ) (frames : List (Position × Frame)) (pages : Pages) → HasFrames first frames pages →
-        AreShort pages → (position : Position) (frame : Frame) → Contains frames (position, frame) →
+        (position : Position) (frame : Frame) → Contains frames (position, frame) →
         (place : Place) × (place.position ≡ position) × HasFrame (pages_from first pages) place frame }
 {}
 
 /// A frame is appended behind the tail of a cursor that tracks its queue: it still does, and its tail stands. A tail that
-/// stands on no later page than that of the frame hasn't passed it.
+/// stands on no later page than that of the frame hasn't passed it. A frame more in the list of the pages' frames is
+/// appended.
 pub fn kept_behind()
+    ensures frame { (first : ℕ) (frames : List (Position × Frame)) (position : Position) (frame : Frame)
+        (old new : Pages) → HasFrames first frames old → HasFrames first (frames ++ (position, frame) ∷ []) new →
+        IsAppended first position (frame_bytes frame) old new }
     ensures behind { (first : ℕ) (position : Position) (payload : List ℕ) (old new : Pages) →
         IsAppended first position payload old new → (tail : Tail) → page_of tail ≤ position.page →
         TailStands tail (pages_from first old) → IsPassed tail position → ⊥ }

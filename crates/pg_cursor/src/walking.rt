@@ -19,7 +19,7 @@ ghost use Rattle.pg_cursor.specs.declared.walking.Step.TheVariants.{Passes, Stay
 
 use crate::tail::Tail;
 use pg_acks::Acks;
-use pg_disk::{Disk, Fault, FileId, Kind};
+use pg_disk::{Disk, Fault};
 use pg_page::{Frame, Place, first_place, next_place, read_frame};
 use pg_pagetx::{PageTxs, Standing};
 use std::alloc::Global;
@@ -55,14 +55,6 @@ fn first_on_page<D: Disk>(disk: &mut D, address: u32, page: u64) -> Result<Optio
         (BreaksOn D.Disk disk.old (page_file address page))) }
     ensures cause { CountsFault (D.faults disk.old) (D.faults disk.new) result }
 {
-    let file = FileId {
-        kind: Kind::Page,
-        owner: address,
-        number: page,
-    };
-    if disk.length(file)? <= 1 {
-        return Ok(None);
-    }
     first_place(disk, address, page)
 }
 

@@ -155,7 +155,7 @@ module _ (u : Cursor) (queue : ℕ) (is : u ≡ record { queue = queue; address 
 -- a tail stands where its page has the same bytes
 stands_alike : (tail : Tail) (old new : Pages) → new (page_of tail) ≡ old (page_of tail) → TailStands tail old → TailStands tail new
 stands_alike (Begin page) old new same stands = tt
-stands_alike (Behind place) old new same stands = record { bytes = stands.bytes; there = same ∙ stands.there; short = stands.short; is = stands.is }
+stands_alike (Behind place) old new same stands = record { bytes = stands.bytes; there = same ∙ stands.there; is = stands.is; fit = stands.fit }
 
 -- what page 1 has is nothing to a cursor behind it
 module _ (files : FinMap file_cmp FileState) (s : FileState) (tail : Tail) (address : ℕ) (behind : 1 < page_of tail) where

@@ -1,14 +1,16 @@
 -- The frames of pages are one list, and what stands at a place of a page is the batch with its index.
-use Rattle.std.proofs.Common.{◌≡◌, ◌≢◌, inl, inr, ℕ, ◌+◌, ◌^◌, ◌≤◌, ◌<◌, List, [], ◌∷◌, ◌++◌, length, drop, slice_get, Option, Some, None, refl, sym, ◌∙◌, ap, subst, arith, append_assoc, length-append}
+use Rattle.std.proofs.Common.{◌≡◌, ◌≢◌, ◌⊎◌, inl, inr, ℕ, ◌+◌, ◌^◌, ◌≤◌, ◌<◌, List, [], ◌∷◌, ◌++◌, length, drop, slice_get, Option, Some, None, refl, sym, ◌∙◌, ap, subst, arith, append_assoc, length-append}
 use Rattle.std.specs.Int.{to_be_bytes, w64}
-use Rattle.std.proofs.lemmas.List.Elements.{All-cons}
+use Rattle.std.specs.List.{All}
+use Rattle.std.proofs.lemmas.List.{take_at}
+use Rattle.std.proofs.lemmas.List.Elements.{All-cons, All-nil, All-take}
 use Rattle.pg_acks.specs.declared.position.Position.{Position}
 use Rattle.pg_disk.proofs.Bytes.{holds_all}
 use Rattle.pg_gate.specs.Gated.{opened, AllFit, Batches, HasBatches}
 use Rattle.pg_gate.proofs.Unique.{back_of, batches_fit, batches_unique, fits_first, fits_rest, front_of, head_of, none_fit, opened_fit, same_length, tail_of}
 use Rattle.pg_page.specs.declared.frame.Frame.{Frame}
 use Rattle.pg_page.specs.declared.place.Place.{Place}
-use Rattle.pg_page.specs.Pages.{Entry, HasFrames, HasPages, Pages, SpellFrames, positioned, positioned_in}
+use Rattle.pg_page.specs.Pages.{AllEntriesFit, Entry, HasFrames, HasPages, Pages, SpellFrames, positioned, positioned_in}
 use Rattle.pg_page.specs.Places.{IsAt, Passes}
 use Rattle.pg_page.proofs.FrameLaws.{frame_short, same_frame}
 
@@ -36,33 +38,53 @@ nothing_passed bytes [] few passes = refl
 nothing_passed bytes (p ∷ ps) few passes = absurd (omega (arith, few, passes.gate, length-append p (opened ps)))
 
 -- what is passed are the first of the page's batches
-pub passed_are : (bytes : List ℕ) (batches passed : List (List ℕ)) → length bytes < 2 ^ 64 → Batches bytes batches → Passes bytes passed → (zs : List (List ℕ)) × (batches ≡ passed ++ zs)
-passed_are bytes batches passed short (inl none) passes = ([], none.1 ∙ ap (λ (l : List (List ℕ)). l ++ []) (sym (nothing_passed bytes passed none.0 passes)))
-passed_are bytes batches passed short (inr some) passes =
-    prefix_of passed batches some.0 some.1 (drop (length (opened passed)) bytes) (opened_fit passed (length bytes) (omega (arith, passes.gate)) short) (batches_fit bytes batches short (inr some)) some.2
-    (sym (holds_all bytes (opened passed) passes.stand) ∙ some.3)
+pub passed_are : (bytes : List ℕ) (batches passed : List (List ℕ)) → AllFit passed → AllFit batches → Batches bytes batches → Passes bytes passed → (zs : List (List ℕ)) × (batches ≡ passed ++ zs)
+passed_are bytes batches passed fit fits (inl none) passes = ([], none.1 ∙ ap (λ (l : List (List ℕ)). l ++ []) (sym (nothing_passed bytes passed none.0 passes)))
+passed_are bytes batches passed fit fits (inr some) passes =
+    prefix_of passed batches some.0 some.1 (drop (length (opened passed)) bytes) fit fits some.2 (sym (holds_all bytes (opened passed) passes.stand) ∙ some.3)
+
+-- in a page of fewer than 2^64 bytes the lengths of those that are passed have their spelling
+pub passed_fit : (bytes : List ℕ) (passed : List (List ℕ)) → length bytes < 2 ^ 64 → Passes bytes passed → AllFit passed
+passed_fit bytes passed short passes = opened_fit passed (length bytes) (omega (arith, passes.gate)) short
+
+-- and those of its batches
+pub short_fit : (bytes : List ℕ) (batches : List (List ℕ)) → length bytes < 2 ^ 64 → Passes bytes batches ⊎ Batches bytes batches → AllFit batches
+short_fit bytes batches short (inl passes) = passed_fit bytes batches short passes
+short_fit bytes batches short (inr are) = batches_fit bytes batches short are
 
 -- the last of these
 get_last : (before : List (List ℕ)) (payload : List ℕ) (zs : List (List ℕ)) → slice_get ((before ++ payload ∷ []) ++ zs) (length before) ≡ Some payload
 get_last [] payload zs = refl
 get_last (p ∷ before) payload zs = get_last before payload zs
 
-pub batch_at : (bytes : List ℕ) (place : Place) (before : List (List ℕ)) (payload : List ℕ) (batches : List (List ℕ)) → length bytes < 2 ^ 64 → IsAt bytes place before payload → Batches bytes batches → slice_get batches place.position.index ≡ Some payload
-batch_at bytes place before payload batches short at are =
-    let parts = passed_are bytes batches (before ++ payload ∷ []) short are at.stands.passes in
+pub batch_at : (bytes : List ℕ) (place : Place) (before : List (List ℕ)) (payload : List ℕ) (batches : List (List ℕ)) → AllFit (before ++ payload ∷ []) → AllFit batches → IsAt bytes place before payload → Batches bytes batches
+    → slice_get batches place.position.index ≡ Some payload
+batch_at bytes place before payload batches fit fits at are =
+    let parts = passed_are bytes batches (before ++ payload ∷ []) fit fits are at.stands.passes in
     ap (λ (l : List (List ℕ)). slice_get l place.position.index) parts.1 ∙ ap (slice_get ((before ++ payload ∷ []) ++ parts.0)) at.index ∙ get_last before payload parts.0
 
 -- ---- the frames
 
 -- payloads that spell frames are short
-spelled_fit : (page index : ℕ) (payloads : List (List ℕ)) (rest : List Entry) (frames : List (Position × Frame)) → SpellFrames (positioned_in page index payloads ++ rest) frames
+pub entries_fit : (entries : List Entry) (frames : List (Position × Frame)) → SpellFrames entries frames → AllEntriesFit entries
+entries_fit [] frames spells = All-nil (λ (entry : Entry). length entry.1 < 2 ^ 64)
+entries_fit (entry ∷ entries) frames spells =
+    All-cons (λ (entry : Entry). length entry.1 < 2 ^ 64) entry entries (omega (arith, frame_short entry.1 spells.0 spells.2)) (entries_fit entries spells.1 spells.3)
+
+-- what is so of all is so of those in front
+pub all_front : {X : Type 0} (P : X → Type 0) (xs ys : List X) → All P (xs ++ ys) → All P xs
+all_front P xs ys all = subst (All P) (take_at xs ys (length xs) refl) (All-take P (length xs) (xs ++ ys) all)
+
+-- so those of each page are
+pub spelled_fit : (page index : ℕ) (payloads : List (List ℕ)) (rest : List Entry) (frames : List (Position × Frame)) → SpellFrames (positioned_in page index payloads ++ rest) frames
     → AllFit payloads × ((more : List (Position × Frame)) × SpellFrames rest more)
 spelled_fit page index [] rest frames spells = (none_fit, (frames, spells))
 spelled_fit page index (p ∷ payloads) rest frames spells =
     let others = spelled_fit page (index + 1) payloads rest spells.1 spells.3 in
     (All-cons (λ payload. length payload < 2 ^ 64) p payloads (omega (arith, frame_short p spells.0 spells.2)) others.0, others.1)
 
-one_page : (xs ys : List (List ℕ)) (bytes : Option (List ℕ)) → AllFit xs → AllFit ys → HasBatches xs bytes → HasBatches ys bytes → xs ≡ ys
+-- so a page has one list of them
+pub one_page : (xs ys : List (List ℕ)) (bytes : Option (List ℕ)) → AllFit xs → AllFit ys → HasBatches xs bytes → HasBatches ys bytes → xs ≡ ys
 one_page xs ys None fit fits these those = absurd these
 one_page xs ys (Some bytes) fit fits these those = batches_unique bytes xs ys fit fits these those
 

@@ -1,5 +1,5 @@
 -- Calls that read a page one after the other, seen from the first.
-use Rattle.std.proofs.Common.{◌≡◌, ℕ, ◌+◌, ◌^◌, ◌≤◌, ◌<◌, List, [], ◌∷◌, ◌++◌, length, Option, Some, None, IfSome, Result, Ok, Err, IfOk, IfErr, refl, sym, ◌∙◌, ap, subst, arith, length-append, IsSome}
+use Rattle.std.proofs.Common.{◌≡◌, ℕ, ◌+◌, ◌^◌, ◌≤◌, ◌<◌, List, [], ◌∷◌, ◌++◌, length, Option, Some, None, IfSome, Result, Ok, Err, IfOk, OnOk, IfErr, refl, sym, ◌∙◌, ap, subst, arith, length-append, IsSome}
 use Rattle.std.specs.FinMap.{get}
 use Rattle.pg_disk.specs.declared.fault.Fault.{Fault}
 use Rattle.pg_disk.specs.declared.fault.Rule.{Rule}
@@ -27,6 +27,15 @@ ok_tells (Err e) P Q R both p q = tt
 pub err_tells : {T E : Type 0} (r : Result T E) (P Q R : E → Type 0) → ((e : E) → P e → Q e → R e) → IfErr r P → IfErr r Q → IfErr r R
 err_tells (Ok x) P Q R both p q = tt
 err_tells (Err e) P Q R both p q = both e p q
+
+-- a page whose length was asked for has fewer than 2^64 bytes, also by its name
+pub short_read : {T E : Type 0} (result : Result T E) (file : FileId) (old : Option Account) (end : ℕ) → AsRead file old (λ bytes. end ≡ length bytes) → end < 2 ^ 64 → OnOk result (AsRead file old (λ bytes. length bytes < 2 ^ 64))
+short_read (Ok x) file old end size small = λ h s there. omega (arith, size h s there, small)
+short_read (Err e) file old end size small = tt
+
+pub short_named : {T E : Type 0} (result : Result T E) (file name : FileId) → file ≡ name → (old : Option Account) → AsRead file old (λ bytes. length bytes < 2 ^ 64) → OnOk result (AsRead name old (λ bytes. length bytes < 2 ^ 64))
+short_named (Ok x) file name same old short = subst (λ f. AsRead f old (λ bytes. length bytes < 2 ^ 64)) same short
+short_named (Err e) file name same old short = tt
 
 -- a place that ends in the file
 abbrev pub InFile : ℕ → ℕ → Option Span → Type 0

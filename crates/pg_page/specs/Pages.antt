@@ -1,6 +1,7 @@
 -- The pages of an address, and the frames in them by their positions.
-use Rattle.std.specs.Prelude.{◌≡◌, ◌≤◌, ◌+◌, ℕ, List, [], ◌∷◌, ◌++◌, Option, None}
+use Rattle.std.specs.Prelude.{◌≡◌, ◌<◌, ◌≤◌, ◌+◌, ◌^◌, ℕ, List, [], ◌∷◌, ◌++◌, length, All, Option, None}
 use Rattle.pg_acks.specs.declared.position.Position.{Position}
+pub use Rattle.pg_acks.specs.Acked.{position_at}
 use Rattle.pg_disk.specs.declared.file_id.FileId.{FileId}
 use Rattle.pg_disk.specs.declared.file_id.Kind.TheVariants.{Page}
 use Rattle.pg_disk.specs.Views.{Contents}
@@ -33,8 +34,9 @@ HasPages first (payloads ∷ more) pages = HasBatches payloads (pages first) × 
 abbrev pub Entry : Type 0
 Entry = Position × List ℕ
 
-abbrev pub position_at : ℕ → ℕ → Position
-position_at page index = record { page = page; index = index }
+-- each payload's length has a spelling of eight bytes
+abbrev pub AllEntriesFit : List Entry → Type 0
+AllEntriesFit entries = All (λ (entry : Entry). length entry.1 < 2 ^ 64) entries
 
 -- the payloads of a page with their positions, from this index on
 abbrev pub positioned_in : ℕ → ℕ → List (List ℕ) → List Entry

@@ -15,7 +15,7 @@ mod writing;
 pub use decoding::{LONGEST_FRAME, decode_frame, one_frame};
 pub use encoding::encode_frame;
 pub use frame::Frame;
-pub use laws::{one_list_of_frames, place_by_index};
+pub use laws::{frames_fit, one_list_of_frames, place_by_index};
 pub use place::Place;
 pub use reading::{first_place, next_place, read_frame};
 pub use writer::{ClosedPage, PageWriter};

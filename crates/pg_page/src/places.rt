@@ -1,5 +1,5 @@
 // Where the frames of a page stand.
-ghost use Rattle.std.specs.Prelude.{◌≡◌, ◌<◌, ◌+◌, ℕ, [], ◌∷◌, ◌++◌, length, IfOk, IfErr};
+ghost use Rattle.std.specs.Prelude.{◌≡◌, ◌<◌, ◌+◌, ◌^◌, ℕ, [], ◌∷◌, ◌++◌, length, IfOk, OnOk, IfErr};
 ghost use Rattle.pg_disk.specs.Calls.{Reads};
 ghost use Rattle.pg_disk.specs.Counts.{CountsFault, FaultCounts};
 ghost use Rattle.pg_disk.specs.Image.{IsFileThere, Leaves};
@@ -19,6 +19,7 @@ use std::alloc::Global;
 pub(crate) fn first_span<D: Disk>(disk: &mut D, file: FileId) -> Result<Option<Span>, Fault>
     requires { OnFiles D.Disk disk.old (IsFileThere file) }
     ensures next { IfOk result (λ next. OnBytes D.Disk disk.old file (λ bytes. IsNextSpan bytes [] next)) }
+    ensures short { OnOk result (OnBytes D.Disk disk.old file (λ bytes. length bytes < 2 ^ 64)) }
     ensures same { (n : ℕ) × Steps D.Disk disk.old disk.new (Reads n) }
     ensures taken { OnAccounts D.Disk disk.old disk.new (ReadsFew 9) }
     ensures any_moment { Within D.Disk disk.old disk.new Leaves }
@@ -70,6 +71,7 @@ pub(crate) fn span_after<D: Disk>(
     requires stands { OnBytes D.Disk disk.old file (StandsSome offset) }
     ensures next { IfOk result (λ next. OnBytes D.Disk disk.old file (λ bytes. (before payload : _) →
         StandsAt bytes offset before payload → IsNextSpan bytes (before ++ payload ∷ []) next)) }
+    ensures short { OnOk result (OnBytes D.Disk disk.old file (λ bytes. length bytes < 2 ^ 64)) }
     ensures same { (n : ℕ) × Steps D.Disk disk.old disk.new (Reads n) }
     ensures taken { OnAccounts D.Disk disk.old disk.new (ReadsFew 18) }
     ensures any_moment { Within D.Disk disk.old disk.new Leaves }

@@ -1,5 +1,6 @@
 // The frames of a page, one at a time: each call reads the disk anew and keeps nothing.
-ghost use Rattle.std.specs.Prelude.{◌≡◌, ◌≤◌, ◌+◌, ℕ, List, [], ◌∷◌, ◌++◌, IfOk, IfErr, IsSome, OnOk, MatchOption};
+ghost use Rattle.std.specs.Prelude.{◌≡◌, ◌<◌, ◌≤◌, ◌+◌, ◌^◌, ℕ, List, [], ◌∷◌, ◌++◌, length, IfOk, IfErr, IsSome};
+ghost use Rattle.std.specs.Prelude.{OnOk, MatchOption};
 ghost use Rattle.pg_disk.specs.Calls.{Reads};
 ghost use Rattle.pg_disk.specs.Counts.{CountsFault, FaultCounts};
 ghost use Rattle.pg_disk.specs.Image.{IsFileThere, Leaves};
@@ -33,6 +34,7 @@ pub fn first_place<D: Disk>(disk: &mut D, address: u32, page: u64) -> Result<Opt
     requires { OnFiles D.Disk disk.old (IsFileThere (page_file address page)) }
     ensures next { IfOk result (λ next. OnBytes D.Disk disk.old (page_file address page) (λ bytes.
         IsNextPlace bytes page [] next)) }
+    ensures short { OnOk result (OnBytes D.Disk disk.old (page_file address page) (λ bytes. length bytes < 2 ^ 64)) }
     ensures same { (n : ℕ) × Steps D.Disk disk.old disk.new (Reads n) }
     ensures taken { OnAccounts D.Disk disk.old disk.new (ReadsFew 9) }
     ensures any_moment { Within D.Disk disk.old disk.new Leaves }
@@ -59,6 +61,8 @@ pub fn next_place<D: Disk>(disk: &mut D, address: u32, after: Place) -> Result<O
     ensures next { IfOk result (λ next. OnBytes D.Disk disk.old (page_file address after.position.page) (λ bytes.
         (before payload : _) → IsAt bytes after before payload →
         IsNextPlace bytes after.position.page (before ++ payload ∷ []) next)) }
+    ensures short { OnOk result (OnBytes D.Disk disk.old (page_file address after.position.page) (λ bytes.
+        length bytes < 2 ^ 64)) }
     ensures same { (n : ℕ) × Steps D.Disk disk.old disk.new (Reads n) }
     ensures taken { OnAccounts D.Disk disk.old disk.new (ReadsFew 18) }
     ensures any_moment { Within D.Disk disk.old disk.new Leaves }

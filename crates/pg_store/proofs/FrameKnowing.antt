@@ -11,7 +11,7 @@ use Rattle.pg_page.specs.declared.place.Place.{Place}
 use Rattle.pg_page.specs.Frames.{SpellsFrame}
 use Rattle.pg_page.specs.Pages.{Entry, HasFrames, HasPages, Pages, SpellFrames, positioned}
 use Rattle.pg_page.specs.Rules.{ArePages, Known, MayStand}
-use Rattle.pg_page.proofs.PageLaws.{frames_once}
+use Rattle.pg_page.proofs.PageLaws.{frames_once, one_page}
 use Rattle.pg_store.specs.declared.store.NormalStore.{NormalStore}
 use Rattle.pg_store.specs.declared.store.PagingStore.{PagingStore}
 use Rattle.pg_store.specs.declared.store.Store.{Store}
@@ -19,7 +19,7 @@ use Rattle.pg_store.specs.declared.store.Store.TheVariants.{Normal, Paging}
 use Rattle.pg_store.specs.Framed.{Frames, HasOldFramesOrMore, MayAllStand, StandsForFrames}
 use Rattle.pg_store.specs.Pages.{IsLast, QuietBefore, States}
 use Rattle.pg_store.specs.Stores.{GoesTo, IsNormal, IsReady, LeavesNone, MayPage, Paged, Reopens, Stands, Starts, first_of, first_of_normal, first_of_store, last_of, last_of_store}
-use Rattle.pg_store.proofs.Framing.{end_with, last_fit, last_has, no_pages, one_list, quiet_have, spell_more}
+use Rattle.pg_store.proofs.Framing.{end_with, last_fit, last_has, no_pages, quiet_have, spell_more}
 use Rattle.pg_store.proofs.Knowing.{known_left, same_states}
 
 -- ---- the store
@@ -50,6 +50,13 @@ frames_paged store next place frames payload frame s t spells paged stands = rec
 -- of a store at rest
 pub frames_known : (store : Store) (frames : Frames) (s : States) (left : Pages) → StandsForFrames store frames s → ((page : ℕ) → IsLeftAt (s page) (left page)) → HasFrames (first_of_store store) frames left
 frames_known store frames s left stands is = record { entries = stands.entries; has = known_left store stands.entries s left stands.stands is; spelled = stands.spelled }
+
+-- of a store that has taken a frame
+pub frames_more : (store next : PagingStore) (place : Place) (frames : Frames) (payload : List ℕ) (frame : Frame) (s t : States) (left : Pages) → first_of next ≡ first_of store → SpellsFrame payload frame → Paged store payload next place s t
+    → StandsForFrames (Paging store) frames s → ((page : ℕ) → IsLeftAt (t page) (left page)) → HasFrames (first_of store) (frames ++ (place.position, frame) ∷ []) left
+frames_more store next place frames payload frame s t left first spells paged stands is =
+    subst (λ (n : ℕ). HasFrames n (frames ++ (place.position, frame) ∷ []) left) first
+    (frames_known (Paging next) (frames ++ (place.position, frame) ∷ []) t left (frames_paged store next place frames payload frame s t spells paged stands) is)
 
 pub frames_none : (store : NormalStore) (s : States) (left : Pages) → IsNormal store s → LeavesNone store s left → HasFrames (first_of_normal store) [] left
 frames_none store s left normal leaves = record { entries = []; has = leaves normal; spelled = refl }
@@ -118,7 +125,7 @@ open_paging store frames s t last quiet has opened =
     let spells : SpellFrames (positioned first (parts.closed ++ parts.payloads ∷ [])) frames = subst (λ (es : List Entry). SpellFrames es frames) (has.has.are ∙ ap (λ (l : List (List (List ℕ))). positioned first l) parts.are) has.spelled in
     let read : HasBatches parts.payloads (bytes_of (s (last_of store))) = subst (λ (n : ℕ). HasBatches parts.payloads (bytes_of (s n))) (sym parts.place) (last_has first parts.closed parts.payloads (λ page. bytes_of (s page)) whole) in
     let one : parts.payloads ≡ opened.0 =
-    one_list parts.payloads opened.0 (bytes_of (s (last_of store))) (last_fit first parts.closed parts.payloads frames spells) (stands_fit store.writer.rest opened.0 (t (last_of store)) opened.2.stands) read opened.1 in
+    one_page parts.payloads opened.0 (bytes_of (s (last_of store))) (last_fit first parts.closed parts.payloads frames spells) (stands_fit store.writer.rest opened.0 (t (last_of store)) opened.2.stands) read opened.1 in
     record {
       entries = positioned first (parts.closed ++ opened.0 ∷ []);
       stands = opened.3 parts.closed parts.place (quiet_have first parts.closed (parts.payloads ∷ []) s (λ page lt. quiet page (omega (arith, lt, parts.place))) whole);

@@ -1,16 +1,14 @@
 -- Payloads and the frames that they spell, and pages that read as whole.
-use Rattle.std.proofs.Common.{◌≡◌, ◌⊎◌, inl, inr, ℕ, ◌+◌, ◌^◌, ◌<◌, ◌≤◌, List, [], ◌∷◌, ◌++◌, length, Option, Some, None, refl, sym, ap, subst, arith}
+use Rattle.std.proofs.Common.{◌≡◌, ◌⊎◌, inl, inr, ℕ, ◌+◌, ◌<◌, ◌≤◌, List, [], ◌∷◌, ◌++◌, length, Option, Some, None, refl, sym, ap, subst, arith}
 use Rattle.std.proofs.lemmas.List.{append-nil, ext_get_or}
-use Rattle.std.proofs.lemmas.List.Elements.{All-cons}
 use Rattle.pg_disk.specs.Account.{FileState, IsQuietAt, IsSound}
 use Rattle.pg_disk.specs.Image.{IsIn, IsLeftAt}
 use Rattle.pg_disk.specs.Views.{bytes_of}
 use Rattle.pg_gate.specs.Gated.{AllFit, Batches, HasBatches}
-use Rattle.pg_gate.proofs.Unique.{batches_unique, none_fit}
 use Rattle.pg_page.specs.declared.frame.Frame.{Frame}
 use Rattle.pg_page.specs.Frames.{SpellsFrame}
-use Rattle.pg_page.specs.Pages.{Entry, HasPages, Pages, SpellFrames, positioned, positioned_in}
-use Rattle.pg_page.proofs.FrameLaws.{frame_short}
+use Rattle.pg_page.specs.Pages.{Entry, HasPages, Pages, SpellFrames, positioned}
+use Rattle.pg_page.proofs.PageLaws.{spelled_fit}
 use Rattle.pg_store.specs.Framed.{Frames}
 use Rattle.pg_store.specs.Pages.{HasNoneFrom, IsLast, QuietBefore, States, SurelyHas, SurelyHave}
 use Rattle.pg_store.proofs.Positions.{positioned-append}
@@ -23,30 +21,17 @@ spell_more [] frames entry frame spells one = subst (λ (fs : Frames). SpellFram
 spell_more (e ∷ entries) frames entry frame spells one =
     (spells.0, spells.1 ++ (entry.0, frame) ∷ [], spells.2, spell_more entries spells.1 entry frame spells.3 one, ap (λ (fs : Frames). fs ++ (entry.0, frame) ∷ []) spells.4)
 
--- the front of what is spelled, and what is behind it
-spelled_first : (xs ys : List Entry) (frames : Frames) → SpellFrames (xs ++ ys) frames → (front : Frames) × SpellFrames xs front
-spelled_first [] ys frames spells = ([], refl)
-spelled_first (x ∷ xs) ys frames spells =
-    let more = spelled_first xs ys spells.1 spells.3 in
-    ((x.0, spells.0) ∷ more.0, (spells.0, more.0, spells.2, more.1, refl))
-
+-- what is spelled behind a front
 spelled_behind : (xs ys : List Entry) (frames : Frames) → SpellFrames (xs ++ ys) frames → (behind : Frames) × SpellFrames ys behind
 spelled_behind [] ys frames spells = (frames, spells)
 spelled_behind (x ∷ xs) ys frames spells = spelled_behind xs ys spells.1 spells.3
 
--- payloads that spell frames are short
-spelled_fit : (page index : ℕ) (payloads : List (List ℕ)) (frames : Frames) → SpellFrames (positioned_in page index payloads) frames → AllFit payloads
-spelled_fit page index [] frames spells = none_fit
-spelled_fit page index (p ∷ payloads) frames spells =
-    All-cons (λ payload. length payload < 2 ^ 64) p payloads (omega (arith, frame_short p spells.0 spells.2)) (spelled_fit page (index + 1) payloads spells.1 spells.3)
-
--- so those of the last page are
+-- the payloads of the last page are short where they spell frames
 pub last_fit : (first : ℕ) (closed : List (List (List ℕ))) (payloads : List (List ℕ)) (frames : Frames) → SpellFrames (positioned first (closed ++ payloads ∷ [])) frames → AllFit payloads
 last_fit first closed payloads frames spells =
     let page : ℕ = first + length closed in
     let behind = spelled_behind (positioned first closed) (positioned page (payloads ∷ [])) frames (subst (λ (es : List Entry). SpellFrames es frames) (positioned-append first closed (payloads ∷ [])) spells) in
-    let own = spelled_first (positioned_in page 0 payloads) [] behind.0 behind.1 in
-    spelled_fit page 0 payloads own.0 own.1
+    (spelled_fit page 0 payloads [] behind.0 behind.1).0
 
 -- ---- what a page reads as
 
@@ -121,11 +106,6 @@ end_with first last (payloads ∷ next ∷ pages) s is has = elim (le_or_lt (fir
 pub last_has : (first : ℕ) (closed : List (List (List ℕ))) (payloads : List (List ℕ)) (pages : Pages) → HasPages first (closed ++ payloads ∷ []) pages → HasBatches payloads (pages (first + length closed))
 last_has first [] payloads pages has = subst (λ (n : ℕ). HasBatches payloads (pages n)) {x = first} (omega arith) has.0
 last_has first (p ∷ closed) payloads pages has = subst (λ (n : ℕ). HasBatches payloads (pages n)) {x = (first + 1) + length closed} (omega arith) (last_has (first + 1) closed payloads pages has.1)
-
--- which are one list
-pub one_list : (xs ys : List (List ℕ)) (bytes : Option (List ℕ)) → AllFit xs → AllFit ys → HasBatches xs bytes → HasBatches ys bytes → xs ≡ ys
-one_list xs ys None fit fits these those = absurd these
-one_list xs ys (Some bytes) fit fits these those = batches_unique bytes xs ys fit fits these those
 
 -- so those before it surely have theirs where nothing of them is pending
 pub before_last : (first last : ℕ) (pages : List (List (List ℕ))) (s : States) → IsLast first (Some last) s → QuietBefore (Some last) s → HasPages first pages (λ page. bytes_of (s page))

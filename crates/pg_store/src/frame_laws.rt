@@ -18,7 +18,8 @@ ghost use Rattle.pg_store.specs.Framed.{StandsForFrames, with_frame};
 ghost use Rattle.pg_store.specs.Pages.{FilesNow, IsLast, LeftPages, QuietBefore, SamePages, States, SurelyHave};
 ghost use Rattle.pg_store.specs.Pages.{states_of};
 ghost use Rattle.pg_store.specs.Stores.{GoesTo, IsNormal, IsReady, LeavesNone, MayPage, Paged, Reopens, Starts};
-ghost use Rattle.pg_store.specs.Stores.{address_of_store, first_of, first_of_normal, first_of_store, last_of_store};
+ghost use Rattle.pg_store.specs.Stores.{address_of_paging, address_of_store, first_of, first_of_normal};
+ghost use Rattle.pg_store.specs.Stores.{first_of_store, last_of_store};
 
 /// What a store knows of frames: it is ready for its calls, the frames stand on where other files change, and after
 /// `page` there is one more behind them.
@@ -37,7 +38,7 @@ pub fn frames_stand()
 {}
 
 /// The frames that a store stands for are those of its pages as they read, and as a crash leaves them, also within
-/// `start` and `page`.
+/// `start` and `page`. After `page` the pages read as before with the new frame behind the others.
 pub fn frames_left()
     ensures read { (store : Store) (frames : Frames) (tells : Option Account) → IsHonest tells →
         StandsForFrames store frames (states_of (account tells).files (address_of_store store)) →
@@ -51,6 +52,13 @@ pub fn frames_left()
     ensures paging { (store : PagingStore) (frames : Frames) (payload : List ℕ) (frame : Frame) (s : States)
         (left : Pages) → SpellsFrame payload frame → StandsForFrames (Paging store) frames s →
         MayPage store payload s left → HasOldFramesOrMore (first_of store) frames frame left }
+    ensures paged { (store next : PagingStore) (place : Place) (frames : Frames) (payload : List ℕ) (frame : Frame)
+        (old new : Option Account) → IsHonest new → first_of next ≡ first_of store → SpellsFrame payload frame →
+        Paged store payload next place (states_of (account old).files (address_of_paging store))
+        (states_of (account new).files (address_of_paging store)) →
+        StandsForFrames (Paging store) frames (states_of (account old).files (address_of_paging store)) →
+        HasFrames (first_of store) (frames ++ (place.position, frame) ∷ [])
+        (pages_of (as_read (account new).files) (address_of_paging store)) }
 {}
 
 /// Pages that are well formed stay so. As they read, that is a rule on the frames alone that the store stands for. Under
