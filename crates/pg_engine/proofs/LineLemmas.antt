@@ -1,5 +1,5 @@
 -- The lines of messages that are kept beside a folded state.
-use Rattle.std.proofs.Common.{◌≡◌, refl, sym, ◌∙◌, ap, ap₂, subst, ℕ, ◌+◌, ◌-◌, ◌^◌, ◌<◌, ◌≤◌, min, take, Bool, true, false, not, cond, ◌&&◌, ◌||◌, eqb, eq-eqb, ne_eqb, List, [], ◌∷◌, ◌++◌, length, map, filter, find, position, get_or, slice_get, Option, Some, None, option_map, is_some, inl, inr, All, AllPairs, arith}
+use Rattle.std.proofs.Common.{◌≡◌, Bor, refl, sym, ◌∙◌, ap, ap₂, subst, ℕ, ◌+◌, ◌-◌, ◌^◌, ◌<◌, ◌≤◌, min, take, Bool, true, false, not, cond, ◌&&◌, ◌||◌, eqb, eq-eqb, ne_eqb, List, [], ◌∷◌, ◌++◌, length, map, filter, find, position, get_or, slice_get, Option, Some, None, option_map, is_some, inl, inr, All, AllPairs, arith}
 use Rattle.std.specs.List.{AllByRecursion, list_any, position_or_len}
 use Rattle.std.specs.Option.{option_and_then, IsSome}
 use Rattle.std.specs.Prelude.{IfSome}
@@ -12,6 +12,7 @@ use Rattle.std.proofs.lemmas.Option.{none-some, same_Some, slice_get-get_or}
 use Rattle.pg_msg.specs.declared.message.Message.{Message}
 use Rattle.pg_msg.specs.declared.message.MessageId.{MessageId}
 use Rattle.pg_records.specs.declared.entry.Entry.TheVariants as entry
+use Rattle.pg_fold.proofs.JournaledLemmas.{found_has}
 use Rattle.pg_fold.specs.declared.durable.Durable.{Durable}
 use Rattle.pg_fold.specs.declared.rows.JournaledRow.{JournaledRow}
 use Rattle.pg_fold.specs.declared.rows.QueueRow.{QueueRow}
@@ -196,40 +197,15 @@ held_row test q (row ∷ rows) m apart found = by (has_number row.holders q) (he
       | inr elsewhere ↦ later_row row rows m apart.0 (others (sym (ap (λ (b : Bool). cond b (Some row.message) (find test (held_by q rows))) elsewhere) ∙ is))
     ]
 
--- ---- rows by their places
-before : {X : Type 0} (test : X → Bool) (xs : List X) → list_any test xs ≡ true → position_or_len test xs < length xs
-before test [] none = absurd (no none)
+-- ---- rows by their ids
+-- a message that is there is found
+pub row_there : (rows : List JournaledRow) (id : MessageId) (found : Option (Bor JournaledRow)) → option_map (λ (row : Bor JournaledRow). row.now) found ≡ find (λ (row : JournaledRow). same_id row.message.id id) rows
+    → has_message rows id ≡ true → IsSome found
+row_there rows id None is there = absurd (no (ap is_some is ∙ found_has id rows ∙ there))
   where
     no : false ≡ true → ⊥
     no e = cc
-before test (x ∷ xs) is = by (test x) is (before test xs)
-  where
-    by : (b : Bool) → (b || list_any test xs) ≡ true → (list_any test xs ≡ true → position_or_len test xs < length xs) → cond (not b) (1 + position_or_len test xs) 0 < length (x ∷ xs)
-    by true is behind = omega arith
-    by false is behind = let less = behind is in omega (arith, less)
-
-pub some_place : {X : Type 0} (test : X → Bool) (xs : List X) → list_any test xs ≡ true → position test xs ≡ Some (position_or_len test xs)
-some_place test xs is = cond-true _ _ _ (lt-ltb (position_or_len test xs) (length xs) (before test xs is))
-
-pub is_placed : {X : Type 0} (test : X → Bool) (xs : List X) (o : Option ℕ) → o ≡ position test xs → list_any test xs ≡ true → IsSome o
-is_placed test xs o is any = subst IsSome (sym (is ∙ some_place test xs any)) refl
-
-pub place_within : {X : Type 0} (test : X → Bool) (xs : List X) (place : ℕ) → position test xs ≡ Some place → place < length xs
-place_within test xs place at = elim (cases_lt (position_or_len test xs) (length xs)) [
-  | inl within ↦ let same = same_Some (position_or_len test xs) place (sym (cond-true _ _ _ (lt-ltb (position_or_len test xs) (length xs) within)) ∙ at) in omega (arith, within, same)
-  | inr past ↦ absurd (none-some place (sym (cond-false _ _ _ (le-ltb (position_or_len test xs) (length xs) past)) ∙ at))
-]
-
--- the element at the first place that passes is the first that passes
-pub found_at : {X : Type 0} (test : X → Bool) (xs : List X) (place : ℕ) (x : X) → position test xs ≡ Some place → x ≡ get_or xs place x → (place < length xs) × (find test xs ≡ Some x)
-found_at {X = X} test xs place x at is = elim (cases_lt (position_or_len test xs) (length xs)) [
-  | inl within ↦
-      let same : position_or_len test xs ≡ place = same_Some (position_or_len test xs) place (sym (cond-true _ _ _ (lt-ltb (position_or_len test xs) (length xs) within)) ∙ at) in (
-        omega (arith, within, same),
-        find_at test xs ∙ ap (λ (n : ℕ). slice_get xs n) same ∙ slice_get-get_or xs place x (omega (arith, within, same)) ∙ ap (λ (y : X). Some y) (sym is),
-      )
-  | inr past ↦ absurd (none-some place (sym (cond-false _ _ _ (le-ltb (position_or_len test xs) (length xs) past)) ∙ at))
-]
+row_there rows id (Some row) is there = refl
 
 any_weaker : {X : Type 0} (p q : X → Bool) → ((x : X) → p x ≡ true → q x ≡ true) → (xs : List X) → list_any p xs ≡ true → list_any q xs ≡ true
 any_weaker p q weaker [] none = none

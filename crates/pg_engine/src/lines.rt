@@ -27,22 +27,26 @@ pub(crate) fn dispatched(
     for queue in queues {
         dispatcher.add_queue(alloc, queue.id)?;
     }
-    add_held(dispatcher, queues, rows)
+    let rows = rows.to_vec(alloc)?;
+    add_held(dispatcher, queues, &rows)
 }
 
 // Puts the messages into the lines of these queues, which are empty.
 fn add_held(
     mut dispatcher: Dispatcher,
     queues: &[QueueRow],
-    rows: &JournaledRows,
+    rows: &[&JournaledRow],
 ) -> Result<Dispatcher, AllocError>
     requires empty { dispatcher ≡ record { lines = map line_from (map (queue_of []) queues.now); consumers = [] } }
-    requires apart { AllPairs (λ row other. same_id row.message.id other.message.id ≡ false) rows.now }
+    requires apart { AllPairs (λ row other. same_id row.message.id other.message.id ≡ false) (map (λ row. row.now) rows.now) }
     ensures { IfOk result
-        (λ done. done ≡ record { lines = map line_from (map (queue_of rows.now) queues.now); consumers = [] }) }
+        (λ done. done ≡ record {
+          lines = map line_from (map (queue_of (map (λ row. row.now) rows.now)) queues.now);
+          consumers = [];
+        }) }
 {
     for place in 0..rows.len() {
-        let row = rows.row(place);
+        let row = rows[place];
         dispatcher.add(row.holders.as_slice(), row.message.id)?;
     }
     Ok(dispatcher)
@@ -58,8 +62,7 @@ pub(crate) fn held_message(
     ensures { IfOk result
         (λ m. Some m ≡ option_map (λ row. row.message) (find (λ row. same_id row.message.id id) rows.now)) }
 {
-    let place = rows.place_of(id).unwrap();
-    rows.row(place).message.copy(alloc)
+    rows.get(id).unwrap().message.copy(alloc)
 }
 
 // The address of the message, and how many bytes fewer it holds once the queue holds the message no more.
@@ -68,8 +71,7 @@ pub(crate) fn relief(rows: &JournaledRows, queue: u32, id: MessageId) -> (u32, u
     requires fields { All (λ row. HasFields row.message) rows.now }
     ensures { IsRelief rows.now queue id result.0 result.1 }
 {
-    let place = rows.place_of(id).unwrap();
-    let row = rows.row(place);
+    let row = rows.get(id).unwrap();
     (row.address, bytes_without(row, queue))
 }
 

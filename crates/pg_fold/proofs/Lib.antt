@@ -1,7 +1,6 @@
 pub mod AddressLemmas
 pub mod FoldLaws
 pub mod JournaledLemmas
-pub mod JournalOrderLemmas
 pub mod MessagePairs
 pub mod QueueIndexLemmas
 pub mod QueueLemmas

@@ -1,6 +1,6 @@
 pub mod Fold
 pub mod HolderIds
-pub mod JournalOrder
+pub mod JournalNumbers
 pub mod QueueIndex
 pub mod Rows
 pub mod Sound

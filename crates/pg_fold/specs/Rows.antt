@@ -1,5 +1,5 @@
 -- What is looked for among the rows of each kind, what is taken out of them, and the order that they keep.
-use Rattle.std.specs.Prelude.{◌≡◌, ◌+◌, ◌<◌, ℕ, Bool, false, not, ◌&&◌, ◌||◌, List, [], ◌∷◌, length, map, filter, count_by, nat_lt, ◌==◌, if◌then◌else◌, slice_index_or, All, AllPairs}
+use Rattle.std.specs.Prelude.{◌≡◌, ◌+◌, ◌<◌, ℕ, Bool, not, ◌&&◌, List, [], ◌∷◌, length, map, filter, count_by, ◌==◌, if◌then◌else◌, slice_index_or, AllPairs}
 use Rattle.std.specs.List.{list_any}
 use Rattle.std.specs.Str.{bytes_eq}
 use Rattle.pg_msg.specs.declared.message.MessageId.{MessageId}
@@ -84,11 +84,3 @@ IsPlaceOf rows id place = (place < length rows) × ((other : QueueRow) → (slic
 -- the id is above that of the last of the rows
 abbrev pub IsBehind : QueueRow → List QueueRow → Type 0
 IsBehind row rows = (k : ℕ) (other : QueueRow) → k + 1 ≡ length rows → (slice_index_or rows k other).id < row.id
-
--- a message of an earlier epoch has the lower id, and in one epoch that of the lower number
-abbrev pub is_above : MessageId → MessageId → Bool
-is_above a b = nat_lt b.epoch a.epoch || ((a.epoch == b.epoch) && nat_lt b.number a.number)
-
--- no message has an id above this one
-abbrev pub AreUpTo : MessageId → List JournaledRow → Type 0
-AreUpTo greatest rows = All (λ row. is_above row.message.id greatest ≡ false) rows

@@ -3,7 +3,7 @@ ghost use Rattle.std.specs.Prelude.{◌≡◌, ◌+◌, ◌<◌, false, length, 
 ghost use Rattle.pg_records.specs.declared.entry.Entry.TheVariants as entries;
 ghost use Rattle.pg_msg.specs.declared.message.Message.{Message};
 ghost use Rattle.pg_fold.specs.Fold.{changed, fresh, rule_of, unless, IsApplied, IsBrokenBy, are_settings};
-ghost use Rattle.pg_fold.specs.Rows.{has_queue_named};
+ghost use Rattle.pg_fold.specs.Rows.{has_message, has_queue_named};
 
 use crate::addresses::AddressRows;
 use crate::filters::check_readable;
@@ -277,6 +277,7 @@ impl Durable {
         queues: QueueIds,
         message: Message,
     ) -> Result<Durable, AllocError>
+        requires { has_message self.journaled message.id ≡ false }
         ensures { IfOk result (λ after. after ≡ changed self (entries.Add address queues message)) }
     {
         let row = JournaledRow {

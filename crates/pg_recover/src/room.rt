@@ -41,8 +41,9 @@ pub fn weights_by_address(
         slice_index sums.items k ≡ min (weight_at (k + 1) rows.now) (2 ^ 64 - 1))) }
 {
     let mut sums = vec![in alloc; 0; count]?;
-    for place in 0..rows.len() {
-        add_weight(&mut sums, rows.row(place));
+    let listed = rows.to_vec(alloc)?;
+    for place in 0..listed.len() {
+        add_weight(&mut sums, listed[place]);
     }
     Ok(sums)
 }

@@ -1,11 +1,11 @@
 // Acknowledgements and drops in every order.
 use crate::entries::{USUAL, add, address, applied, broken, queue};
-use crate::rows::is_held;
+use crate::rows::holds;
 use pg_disk::Rule;
 use pg_fold::{Durable, FoldError};
 use pg_msg::MessageId;
 use pg_records::Entry;
-use std::alloc::Global;
+use std::alloc::{AllocError, Global};
 use std::test::Fail;
 
 // The numbers of three messages of one epoch: in the order of their ids, in the reverse order, and in neither. The
@@ -79,16 +79,19 @@ fn ack(letter: char, numbers: [u32; 3]) -> Entry {
 }
 
 // Whether the messages that have holders are held by these, in this order, and no others are.
-fn is_left(durable: &Durable, numbers: [u32; 3], holders: [&[u32]; 3]) -> bool {
-    let [first, second, third] = numbers;
-    let [of_first, of_second, of_third] = holders;
-    let behind_first = usize::from(!of_first.is_empty());
-    let behind_second = behind_first + usize::from(!of_second.is_empty());
-    let all = behind_second + usize::from(!of_third.is_empty());
-    durable.journaled.len() == all
-        && (of_first.is_empty() || is_held(durable, 0, id(first), of_first))
-        && (of_second.is_empty() || is_held(durable, behind_first, id(second), of_second))
-        && (of_third.is_empty() || is_held(durable, behind_second, id(third), of_third))
+fn is_left(
+    alloc: Global,
+    durable: &Durable,
+    numbers: [u32; 3],
+    holders: [&[u32]; 3],
+) -> Result<bool, AllocError> {
+    let mut messages = Vec::new(alloc);
+    for at in 0..3 {
+        if !holders[at].is_empty() {
+            messages.push((id(numbers[at]), holders[at]))?;
+        }
+    }
+    holds(alloc, durable, &messages)
 }
 
 // Whether both have the same letters.
@@ -104,7 +107,7 @@ fn leaves(alloc: Global, numbers: [u32; 3], front: &str) -> Result<bool, FoldErr
         durable = applied(alloc, durable, ack(letter, numbers))?;
     }
     for (letters, holders) in LEFT {
-        if are_same(letters, front) && !is_left(&durable, numbers, holders) {
+        if are_same(letters, front) && !is_left(alloc, &durable, numbers, holders)? {
             return Ok(false);
         }
     }
@@ -149,7 +152,9 @@ fn drops_around(alloc: Global, numbers: [u32; 3]) -> Result<bool, FoldError> {
         let before = applied(alloc, dropped, ack(letter, numbers))?;
         let acknowledged = applied(alloc, begun(alloc, numbers)?, ack(letter, numbers))?;
         let behind = applied(alloc, acknowledged, Entry::DropQueue { queue })?;
-        if !is_left(&before, numbers, holders) || !is_left(&behind, numbers, holders) {
+        if !is_left(alloc, &before, numbers, holders)?
+            || !is_left(alloc, &behind, numbers, holders)?
+        {
             return Ok(false);
         }
     }

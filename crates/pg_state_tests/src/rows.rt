@@ -6,7 +6,7 @@ use pg_disk::Rule;
 use pg_fold::{Durable, FoldError, JournaledRow};
 use pg_msg::MessageId;
 use pg_records::Entry;
-use std::alloc::Global;
+use std::alloc::{AllocError, Global};
 use std::test::Fail;
 
 // The addresses as the rows have them: id, name, first page, and the settings.
@@ -32,9 +32,23 @@ fn is_row(row: &JournaledRow, id: MessageId, holders: &[u32]) -> bool {
     row.address == 1 && row.message.id == id && row.holders.as_slice() == holders
 }
 
-/// Whether the message at the place is this one, of the first address, and these queues hold it.
-pub fn is_held(durable: &Durable, at: usize, id: MessageId, holders: &[u32]) -> bool {
-    at < durable.journaled.len() && is_row(durable.journaled.row(at), id, holders)
+/// Whether the messages are these in this order, each of the first address and held by its queues.
+pub fn holds(
+    alloc: Global,
+    durable: &Durable,
+    messages: &[(MessageId, &[u32])],
+) -> Result<bool, AllocError> {
+    let rows = durable.journaled.to_vec(alloc)?;
+    if rows.len() != messages.len() {
+        return Ok(false);
+    }
+    for at in 0..rows.len() {
+        let (id, holders) = messages[at];
+        if !is_row(rows[at], id, holders) {
+            return Ok(false);
+        }
+    }
+    Ok(true)
 }
 
 // How many rows there are of each kind, the epoch, and the next queue.
@@ -48,20 +62,21 @@ fn counts(durable: &Durable) -> (usize, usize, usize, u32, u32) {
     )
 }
 
-fn is_made(durable: &Durable) -> bool {
-    counts(durable) == (2, 3, 2, 2, 5)
-        && has_address(durable, 0, 1, "A", USUAL)
-        && has_address(durable, 1, 2, "B", USUAL)
-        && has_queue(durable, 0, 1, 1, "Q")
-        && has_queue(durable, 1, 2, 1, "R")
-        && has_queue(durable, 2, 3, 2, "S")
-        && is_held(durable, 0, FIRST, &[1, 2])
-        && is_held(durable, 1, SECOND, &[2])
+fn is_made(alloc: Global, durable: &Durable) -> Result<bool, AllocError> {
+    Ok(
+        counts(durable) == (2, 3, 2, 2, 5)
+            && has_address(durable, 0, 1, "A", USUAL)
+            && has_address(durable, 1, 2, "B", USUAL)
+            && has_queue(durable, 0, 1, 1, "Q")
+            && has_queue(durable, 1, 2, 1, "R")
+            && has_queue(durable, 2, 3, 2, "S")
+            && holds(alloc, durable, &[(FIRST, &[1, 2]), (SECOND, &[2])])?,
+    )
 }
 
 // Whether the fresh state has nothing, and the entries give their rows.
 fn makes(alloc: Global) -> Result<bool, FoldError> {
-    Ok(counts(&Durable::fresh(alloc)) == (0, 0, 0, 0, 1) && is_made(&made(alloc)?))
+    Ok(counts(&Durable::fresh(alloc)) == (0, 0, 0, 0, 1) && is_made(alloc, &made(alloc)?)?)
 }
 
 // Whether a drop takes the queue out, and from the holders of its messages, and the message that it held alone.
@@ -71,7 +86,7 @@ fn drops(alloc: Global) -> Result<bool, FoldError> {
         counts(&durable) == (2, 2, 1, 2, 5)
             && has_queue(&durable, 0, 1, 1, "Q")
             && has_queue(&durable, 1, 3, 2, "S")
-            && is_held(&durable, 0, FIRST, &[1]),
+            && holds(alloc, &durable, &[(FIRST, &[1])])?,
     )
 }
 
@@ -88,19 +103,19 @@ fn acknowledged(alloc: Global, count: u32) -> Result<Durable, FoldError> {
 // Whether a message stays until its last acknowledgement.
 fn acknowledges_once(alloc: Global) -> Result<bool, FoldError> {
     let once = acknowledged(alloc, 1)?;
-    Ok(is_held(&once, 0, FIRST, &[2]) && is_held(&once, 1, SECOND, &[2]))
+    Ok(holds(alloc, &once, &[(FIRST, &[2]), (SECOND, &[2])])?)
 }
 
 // Whether a message goes with its last acknowledgement.
 fn acknowledges_twice(alloc: Global) -> Result<bool, FoldError> {
     let twice = acknowledged(alloc, 2)?;
-    Ok(counts(&twice) == (2, 3, 1, 2, 5) && is_held(&twice, 0, SECOND, &[2]))
+    Ok(counts(&twice) == (2, 3, 1, 2, 5) && holds(alloc, &twice, &[(SECOND, &[2])])?)
 }
 
 // Whether it may come again behind the others.
 fn adds_again(alloc: Global) -> Result<bool, FoldError> {
     let again = applied(alloc, acknowledged(alloc, 2)?, add(alloc, 1, &[1], FIRST)?)?;
-    Ok(is_held(&again, 0, SECOND, &[2]) && is_held(&again, 1, FIRST, &[1]))
+    Ok(holds(alloc, &again, &[(SECOND, &[2]), (FIRST, &[1])])?)
 }
 
 // The state in a later epoch, with the last queue that can be.

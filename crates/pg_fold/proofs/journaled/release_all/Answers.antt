@@ -1,13 +1,13 @@
-use Rattle.std.proofs.Common.{set, ap, ◌∙◌, arith, ◌<◌, length}
-use Rattle.std.proofs.lemmas.List.Edits.{map_over_more}
-use Rattle.pg_fold.specs.Rows.{released}
+use Rattle.std.proofs.Common.{rules, of_calls}
+use Rattle.pg_fold.specs.JournalNumbers.{IsTold}
+use Rattle.pg_fold.proofs.JournaledLemmas.{all_by, dropped_by, IsBelow}
 use Rattle.pg_fold.proofs.journaled.release_all.Goals as goal
 
-pub loop-place-preserved : goal.loop-place-preserved
-loop-place-preserved c =
-    let row = c.index_mut.result.now in
-    let within : c.loop-place.place < length c.args.rows.now.items = omega (arith, c.loop-place-test.true, c.len-place-end.ensures) in (
-      c.loop-place.invariant.0,
-      ap (set c.loop-place.rows.items c.loop-place.place) c.release.ensures
-          ∙ map_over_more (released c.args.queue) c.args.rows.now.items c.loop-place.rows.items c.loop-place.place row within c.loop-place.invariant.1 c.index_mut.ensures.value,
-    )
+pub returns-clause-left : goal.returns-clause-left
+returns-clause-left c = dropped_by _ _ c.args.queue (λ k v b w f' step. search (rules, of_calls)) _ _ c.retain.ensures.filtered
+
+pub returns-clause-below : goal.returns-clause-below
+returns-clause-below c next below = all_by _ _ c.args.queue (λ k v b w f' step. search (rules, of_calls)) (IsBelow next) (λ number row is. is) _ _ c.retain.ensures.filtered below
+
+pub returns-clause-told : goal.returns-clause-told
+returns-clause-told c numbers told = all_by _ _ c.args.queue (λ k v b w f' step. search (rules, of_calls)) (IsTold numbers) (λ number row is. is) _ _ c.retain.ensures.filtered told
