@@ -8,3 +8,7 @@ pub mod Ids
 pub mod Runs
 pub mod Reopening
 pub mod Stepping
+pub mod EitherState
+pub mod Listed
+pub mod Everywhere
+pub mod AllFrames

@@ -123,3 +123,44 @@ ReopensPaging store s t = (payloads : List (List ℕ)) × HasBatches payloads (b
 abbrev pub Reopens : Store → States → States → Type 0
 Reopens (Normal store) s t = Stands (Normal store) [] t
 Reopens (Paging store) s t = ReopensPaging store s t
+
+-- ---- a payload is added at an address in either state
+
+-- Where it goes: at a normal address to its first page, which is made, and else as GoesTo says. At a normal address
+-- whose first page is 7 that is 7:0, which stands at offset 9, whatever the limit is.
+abbrev pub GoesFrom : Store → ℕ → ℕ → Place → Type 0
+GoesFrom (Normal store) size limit place = (place.position ≡ position_at (first_of_normal store) 0) × (place.offset ≡ 9)
+GoesFrom (Paging store) size limit place = GoesTo store size limit place
+
+-- The last page has the payload as its last one: it has one frame more than the place's index, and its counted length
+-- ends 1 byte behind the payload.
+abbrev pub EndsWith : Store → ℕ → Place → Type 0
+EndsWith (Normal store) size place = ⊥
+EndsWith (Paging store) size place =
+    (frames_in_last store ≡ place.position.index + 1) × (counted_in_last store ≡ place.offset + size + 1)
+
+-- The store has taken a payload of so many bytes at this place, which is on its last page. Its address and its first
+-- page stay.
+pub record Takes (store : Store) (size limit : ℕ) (next : Store) (place : Place) : Type 0 where
+  pub address : address_of_store next ≡ address_of_store store
+  pub first : first_of_store next ≡ first_of_store store
+  pub last : last_of_store next ≡ Some place.position.page
+  pub goes : GoesFrom store size limit place
+  pub ends : EndsWith next size place
+
+-- There is no page for it: at a normal address the first page is numbered above 2^62, or its file would grow past 2^62
+-- bytes. An empty page has one counted byte.
+abbrev pub HasNoSpaceFor : Store → ℕ → ℕ → Type 0
+HasNoSpaceFor (Normal store) size limit = (2 ^ 62 < first_of_normal store) ⊎ (2 ^ 62 < size + 10)
+HasNoSpaceFor (Paging store) size limit = HasNoSpace store size limit
+
+-- the payload stands behind the others, at this place
+pub record PagedInto (store : Store) (payload : List ℕ) (next : Store) (place : Place) (s t : States) : Type 0 where
+  pub ready : IsReady store s → IsReady next t
+  pub adds : (entries : List Entry) → Stands store entries s
+      → Stands next (entries ++ (place.position, payload) ∷ []) t
+
+-- what a crash leaves has the payloads that the store stands for, or this one behind them too
+abbrev pub MayPageInto : Store → List ℕ → States → Pages → Type 0
+MayPageInto store payload s left =
+    (entries : List Entry) → Stands store entries s → HasOldOrMore (first_of_store store) entries payload left

@@ -61,7 +61,7 @@ impl PagingStore {
     }
 
     // Adds a frame to the last page.
-    fn add<D: Disk>(
+    pub(crate) fn add<D: Disk>(
         self,
         alloc: Global,
         disk: &mut D,
