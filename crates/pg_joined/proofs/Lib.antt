@@ -1,0 +1,13 @@
+pub mod Causing
+pub mod Consumers
+pub mod Delivering
+pub mod Ids
+pub mod KeptPages
+pub mod KeptSteps
+pub mod Keeping
+pub mod Lifting
+pub mod Lists
+pub mod Paging
+pub mod Parting
+pub mod Queues
+pub mod Sending
