@@ -1,0 +1,5 @@
+pub mod Lists
+pub mod Filters
+pub mod Acknowledging
+pub mod Ordering
+pub mod Giving
