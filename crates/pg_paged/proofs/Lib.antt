@@ -3,3 +3,4 @@ pub mod Filters
 pub mod Acknowledging
 pub mod Ordering
 pub mod Giving
+pub mod Counting

@@ -1,5 +1,5 @@
 // Laws of the messages of a queue that stand in pages. They have no code.
-ghost use Rattle.std.specs.Prelude.{All, ◌≡◌, ◌≢◌, ◌≤◌, ◌∷◌, ◌++◌, ℕ, false, if◌then◌else◌, List, [], None, Some};
+ghost use Rattle.std.specs.Prelude.{All, ◌≡◌, ◌≢◌, ◌≤◌, ◌∷◌, ◌++◌, ◌-◌, ◌^◌, ℕ, false, if◌then◌else◌, List, [], length, min, None, Some};
 ghost use Rattle.pg_acks.specs.declared.position.Position.{Position};
 ghost use Rattle.pg_acks.specs.Acked.{AckSets, with_position, without_queue};
 ghost use Rattle.pg_msg.specs.declared.message.MessageId.{MessageId};
@@ -9,6 +9,7 @@ ghost use Rattle.pg_page.specs.Pages.{HasFrames, Pages};
 ghost use Rattle.pg_pagetx.specs.Standings.{Transactions};
 ghost use Rattle.pg_model.specs.Broker.{same_id};
 ghost use Rattle.pg_model.specs.Changes.{without_message};
+ghost use Rattle.pg_cursor.specs.Counting.{HasCount, IsCounted};
 ghost use Rattle.pg_cursor.specs.Entries.{HasFrame, names, pages_from};
 ghost use Rattle.pg_cursor.specs.Tracking.{Cursor, IsFirstAvailable, IsGiven};
 ghost use Rattle.pg_paged.specs.Paged.{Frames, first_free, is_left, paged_for, same_position};
@@ -47,4 +48,13 @@ pub fn first_left()
         (txs : Transactions) → HasFrames first frames pages
         → IsGiven last cursor acks txs None (pages_from first pages) → All (λ framed. framed.0.page ≤ last) frames
         → first_free acks txs cursor.queue cursor.taken frames ≡ None }
+{}
+
+/// What a cursor counts, where no frame is behind the last page, are the messages that are left for its queue, or 2^64 - 1
+/// where they are more. This law has no code.
+pub fn count_left()
+    ensures { (first last count : ℕ) (frames : Frames) (pages : Pages) (cursor : Cursor) (acks : AckSets)
+        (txs : Transactions) → HasFrames first frames pages → All (λ framed. framed.0.page ≤ last) frames
+        → HasCount (IsCounted last cursor acks txs (pages_from first pages)) count
+        → count ≡ min (length (paged_for acks txs cursor.queue frames)) (2 ^ 64 - 1) }
 {}

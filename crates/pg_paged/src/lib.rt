@@ -3,4 +3,4 @@
 
 mod laws;
 
-pub use laws::{first_left, frames_change};
+pub use laws::{count_left, first_left, frames_change};
